@@ -1,0 +1,17 @@
+pub mod Word
+pub mod Limits
+pub mod Place
+pub mod Loaded
+pub mod Files
+pub mod Classes
+pub mod Decoding
+pub mod Arithmetic
+pub mod State
+pub mod Setup
+pub mod Story
+pub mod FlatMemory
+pub mod Unsplit
+pub mod Rounds
+pub mod Built
+pub mod Split
+pub mod Journal

@@ -1,0 +1,84 @@
+-- The story of one instruction: what a hart does, from the state at the start and the replies so far.
+use Rattle.std.specs.Prelude.{◌≡◌, ℕ, ◌+◌, ◌%◌, Bool, true, false, ◌&&◌, ◌==◌, nat_lt, if◌then◌else◌, List, [], ◌∷◌, ◌++◌}
+use Rattle.flex_base.specs.Word.{wrap, is_multiple}
+use Rattle.flex_base.specs.Place.{in_ram}
+use Rattle.flex_base.specs.Decoding.{decoded}
+use Rattle.flex_base.specs.State.{State, reg, set_reg}
+use Rattle.flex_base.specs.Setup.{Setup}
+use Rattle.flex_base.specs.declared.access.Access.{Access}
+use Rattle.flex_base.specs.declared.access.Access.TheVariants as acc
+use Rattle.flex_base.specs.declared.access.Reply.{Reply}
+use Rattle.flex_base.specs.declared.class.Class.{Class}
+use Rattle.flex_base.specs.declared.class.Class.TheVariants as class
+use Rattle.flex_base.specs.declared.event.EndPart.{EndPart}
+use Rattle.flex_base.specs.declared.operation.Op.{Op}
+use Rattle.flex_base.specs.declared.operation.Op.TheVariants as op
+use Rattle.flex_base.specs.declared.operation.AluOp.TheVariants as alu
+
+-- what a hart wants next: an access, an end that leaves a state, or nothing any more. What is to come later has no meaning yet
+pub data Want : Type 0 where
+  Asks : Access → Want
+  Ends : EndPart → State → Want
+  IsOver : Want
+  IsLater : Want
+
+-- what a hart does from here on: an access and then, by its reply, what follows; or what stands at the end
+pub data Story : Type 0 where
+  Says : Access → (Reply → Story) → Story
+  Closes : Want → Story
+
+-- an end that writes a register (0 for none) and goes on at `next`; each 64th end makes a pulse due
+abbrev pub ends : State → Class → ℕ → ℕ → ℕ → Story
+ends a class next rd value = Closes (Ends
+    (record { class = class; pc = a.pc; next = next; first = rd; second = if rd == 0 then 0 else value })
+    (record a { pc = next; x = set_reg a.x rd value; ends = a.ends + 1; due = is_multiple (a.ends + 1) 64 }))
+
+-- an exception of this cause and value; traps come later
+abbrev pub traps : State → ℕ → ℕ → Story
+traps a cause tval = Closes IsLater
+
+-- a jump to a misaligned address is an exception of the jump itself (Volume I, "Control Transfer Instructions")
+abbrev pub jumps : State → ℕ → ℕ → Story
+jumps a target rd = if is_multiple target 4 then ends a class.Jump target rd (wrap (a.pc + 4)) else traps a 0 target
+
+-- the work of a decoded instruction
+abbrev pub works : Setup → State → Op → Story
+works setup a (op.AluImm alu.Add rd rs1 imm) = ends a class.Alu (wrap (a.pc + 4)) rd (wrap (reg a rs1 + imm))
+works setup a (op.Jal rd imm) = jumps a (wrap (a.pc + imm)) rd
+works setup a other = Closes IsLater
+
+-- the fetch; in mode M no address is translated
+abbrev pub fetches : Setup → State → Story
+fetches setup a = if in_ram setup.ram a.pc 4
+    then Says (acc.Fetch a.pc) (λ reply. works setup a (decoded reply.value))
+    else traps a 1 a.pc
+
+-- time goes on where the ends are a positive multiple of 64
+abbrev pub is_tick : State → Bool
+is_tick a = nat_lt 0 a.ends && is_multiple a.ends 64
+
+-- the pulse, where one is due; its lines count from here on
+abbrev pub pulses : Setup → State → Story
+pulses setup a = if a.due
+    then Says (acc.Pulse (is_tick a)) (λ reply. if reply.stop then Closes IsOver else fetches setup (record a { lines = reply.lines }))
+    else fetches setup a
+
+-- the whole instruction; a hart that has spent its budget retires
+abbrev pub story : Setup → State → Story
+story setup a = if a.ends == setup.budget
+    then Says acc.Retire (λ reply. Closes IsOver)
+    else pulses setup a
+
+-- where the replies lead
+abbrev pub goes : Story → List Reply → Story
+goes s [] = s
+goes (Says access next) (reply ∷ replies) = goes (next reply) replies
+goes (Closes want) (reply ∷ replies) = Closes want
+
+abbrev pub want : Story → Want
+want (Says access next) = Asks access
+want (Closes w) = w
+
+-- what a hart wants whose instruction began in this state and has had these replies
+abbrev pub ask : Setup → State → List Reply → Want
+ask setup a replies = want (goes (story setup a) replies)

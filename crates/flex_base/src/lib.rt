@@ -1,0 +1,32 @@
+//! What every crate of the emulator speaks of: harts, engines and classes, instructions, accesses
+//! and replies, events, settings and images, and the traits by which the outside is reached.
+//!
+//! The definitions in `specs/` say what a run is: the unsplit machine, in which any hart may make
+//! the next event over one flat memory. The code of the crates above is proved against them.
+#![tactic(auto)]
+
+mod access;
+mod class;
+mod engine;
+mod event;
+mod gate;
+mod hart;
+mod image;
+mod line;
+mod operation;
+mod outer;
+mod settings;
+mod text;
+
+pub use access::{Access, Reply, access_class};
+pub use class::{Class, capable};
+pub use engine::Engine;
+pub use event::{EndPart, Event, Stop, What};
+pub use gate::{Gate, OpenGate, Point};
+pub use hart::{HartId, Mode};
+pub use image::Image;
+pub use line::Line;
+pub use operation::{AluOp, AmoOp, BranchOp, CsrOp, MulOp, Op};
+pub use outer::{Failed, Outer, TakeFault};
+pub use settings::{Layout, Place, RAM_BASE, Settings};
+pub use text::Text;

@@ -1,0 +1,26 @@
+use flex_base::HartId;
+
+/// A hart at the start of an instruction.
+#[derive(Clone, Copy, Debug, PartialEq, Eq)]
+pub struct Hart {
+    pub pc: u64,
+    /// The registers; `x[0]` is never read.
+    pub x: [u64; 32],
+    /// How many instructions have ended.
+    pub ends: u64,
+}
+
+impl Hart {
+    ghost use Rattle.std.specs.Prelude.{◌≡◌};
+    ghost use Rattle.flex_base.specs.State.{start};
+    ghost use Rattle.hart_story.specs.StandsFor.{StandsFor};
+
+    /// The start of a hart: at the entry, with its number in `x10`.
+    pub fn start(hart: HartId, entry: u64) -> Hart
+        ensures { StandsFor result (start hart.0 entry) }
+    {
+        let mut x = [0; 32];
+        x[10] = hart.0 as u64;
+        Hart { pc: entry, x, ends: 0 }
+    }
+}

@@ -1,0 +1,7 @@
+//! One hart's instructions, an event at a time. An instruction can be left half done at any access
+//! and resumed with the reply; `need`, `give` and `finish` go along the story of the instruction.
+#![tactic(auto)]
+
+mod hart;
+
+pub use hart::Hart;
