@@ -81,4 +81,4 @@ step_steps setup u h = elim (nat_lt h setup.harts) as (λ b. StepsTo u h (if b t
 
 -- a step keeps the number of harts
 pub length-step : (setup : Setup) (u : Machine) (h : ℕ) → length (step setup u h).harts ≡ length u.harts
-length-step setup u h = elim (step_steps setup u h) [ Stays e ↦ ap (λ (m : Machine). length m.harts) e | Adds x no events same ↦ same ]
+length-step setup u h = elim (step_steps setup u h) [ Stays e ↦ ap (λ (m : Machine). length m.harts) e | Adds x plain events same ↦ same ]

@@ -1,5 +1,5 @@
 -- A run's order is that of its events: names without an event change nothing, and a split run keeps the order.
-use Rattle.std.proofs.Common.{◌≡◌, ℕ, true, false, not, if◌then◌else◌, List, [], ◌∷◌, ◌++◌, map, filter, fold, length, refl, ap, sym, subst, ◌∙◌, append_assoc, arith}
+use Rattle.std.proofs.Common.{◌≡◌, ℕ, true, false, not, if◌then◌else◌, List, [], ◌∷◌, ◌++◌, map, filter, fold, length, refl, ap, sym, subst, ◌∙◌, append_assoc, append-nil, arith}
 use Rattle.flex_base.specs.Setup.{Setup}
 use Rattle.flex_base.specs.Unsplit.{Machine, Made, begin, step, reach, reach_from, unsplit, does}
 use Rattle.flex_base.specs.Split.{Plan, Parted, part, parted, unparted, split, event, numbered, handed, is_same_engine}
@@ -22,14 +22,14 @@ harts_of made = map (λ (m : Made). m.hart) made
 pub record AddedBy (setup : Setup) (u : Machine) (order : List ℕ) : Type 0 where
   pub new : List Made
   pub events : (reach_from setup u order).events ≡ u.events ++ new
-  pub order : reach_from setup u (harts_of new) ≡ reach_from setup u order
+  pub leads : reach_from setup u (harts_of new) ≡ reach_from setup u order
   pub plain : NoHandover new
 
 added_none : (setup : Setup) (u : Machine) → AddedBy setup u []
 added_none setup u = record {
   new = [];
   events = ap (λ (m : Machine). m.events) (reach-none setup u) ∙ sym (append-nil u.events);
-  order = refl;
+  leads = refl;
   plain = None;
 }
 
@@ -37,14 +37,14 @@ added_more : (setup : Setup) (u : Machine) (h : ℕ) (order : List ℕ) → Adde
 added_more setup u h order added (Stays same) = record {
   new = added.new;
   events = ap (λ (m : Machine). m.events) (reach-cons setup u h order) ∙ added.events ∙ ap (λ (m : Machine). m.events ++ added.new) same;
-  order = ap (λ m. reach_from setup m (harts_of added.new)) (sym same) ∙ added.order ∙ sym (reach-cons setup u h order);
+  leads = ap (λ m. reach_from setup m (harts_of added.new)) (sym same) ∙ added.leads ∙ sym (reach-cons setup u h order);
   plain = added.plain;
 }
-added_more setup u h order added (Adds happened no events same) = record {
+added_more setup u h order added (Adds happened plain events same) = record {
   new = does h happened ∷ added.new;
   events = ap (λ (m : Machine). m.events) (reach-cons setup u h order) ∙ added.events ∙ ap (λ es. es ++ added.new) events ∙ append_assoc u.events (does h happened ∷ []) added.new;
-  order = reach-cons setup u h (harts_of added.new) ∙ added.order ∙ sym (reach-cons setup u h order);
-  plain = More (does h happened) added.new no added.plain;
+  leads = reach-cons setup u h (harts_of added.new) ∙ added.leads ∙ sym (reach-cons setup u h order);
+  plain = More (does h happened) added.new plain added.plain;
 }
 
 pub added : (setup : Setup) (u : Machine) (order : List ℕ) → AddedBy setup u order
