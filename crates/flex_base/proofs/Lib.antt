@@ -1,3 +1,4 @@
+pub mod Places
 pub mod Stories
 pub mod Machines
 pub mod Orders

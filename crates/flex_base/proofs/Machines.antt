@@ -45,20 +45,20 @@ place_in setup half = goes (story setup half.state) half.replies
 
 -- the half of a hart after it made an access, and after an end
 pub half_after_access : (setup : Setup) (u : Machine) (h : ℕ) (access : Access) → h < setup.harts → h < length u.harts → want_of setup u h ≡ Asks access
-  → half_at (step setup u h) h ≡ stepped (half_at u h) (Asks access) (reply_to setup u h access)
+    → half_at (step setup u h) h ≡ stepped (half_at u h) (Asks access) (reply_to setup u h access)
 half_after_access setup u h access below within asks =
     ap (λ m. half_at m h) (step_is setup u h (Asks access) below asks)
     ∙ half-set u h (stepped (half_at u h) (Asks access) (reply_to setup u h access)) _ _ within refl
 
 pub half_after_end : (setup : Setup) (u : Machine) (h : ℕ) (part : EndPart) (after : State) → h < setup.harts → h < length u.harts → want_of setup u h ≡ Ends part after
-  → half_at (step setup u h) h ≡ half_of after
+    → half_at (step setup u h) h ≡ half_of after
 half_after_end setup u h part after below within ends =
     ap (λ m. half_at m h) (step_is setup u h (Ends part after) below ends)
     ∙ half-set u h (half_of after) _ _ within refl
 
 -- after an access the hart is at what follows the reply
 pub story_after_access : (setup : Setup) (u : Machine) (h : ℕ) (access : Access) (next : Reply → Story) → h < setup.harts → h < length u.harts → story_of setup u h ≡ Says access next
-  → story_of setup (step setup u h) h ≡ next (reply_to setup u h access)
+    → story_of setup (step setup u h) h ≡ next (reply_to setup u h access)
 story_after_access setup u h access next below within says =
     ap (place_in setup) (half_after_access setup u h access below within (ap want says))
     ∙ goes_push (story setup (half_at u h).state) (half_at u h).replies (reply_to setup u h access)

@@ -43,6 +43,7 @@ pub record IsAlignedRam (setup : Setup) (address width : ℕ) : Type 0 where
 -- a width of a load, a store or a device register; of these, a width of an atomic
 abbrev pub IsWidth : ℕ → Type 0
 IsWidth width = (width == 1) || (width == 2) || (width == 4) || (width == 8) ≡ true
+
 abbrev pub IsAtomicWidth : ℕ → Type 0
 IsAtomicWidth width = (width == 4) || (width == 8) ≡ true
 

@@ -15,10 +15,10 @@ use Rattle.hart_story.specs.declared.progress.Progress.{Progress}
 use Rattle.hart_story.specs.declared.progress.Progress.TheVariants as progress
 
 -- a run of this layout and budget
-pub record IsOf (setup : Setup) (layout : Layout) (budget : ℕ) : Type 0 where
+pub record IsOf (setup : Setup) (layout : Layout) (most : ℕ) : Type 0 where
   pub harts : setup.harts ≡ layout.harts
   pub ram : setup.ram ≡ layout.ram
-  pub budget : setup.budget ≡ budget
+  pub budget : setup.budget ≡ most
 
 -- where the hart is in the story of an instruction that began in this state
 abbrev pub node : Setup → State → Progress → Story

@@ -1,4 +1,4 @@
-ghost use Rattle.std.specs.Prelude.{◌≡◌, ◌==◌, if◌then◌else◌, ◌-◌, ◌^◌, ◌<◌, List, [], ◌∷◌, ◌++◌};
+ghost use Rattle.std.specs.Prelude.{◌≡◌, ◌==◌, if◌then◌else◌, ◌-◌, ◌^◌, ◌<◌, List, [], ◌∷◌, ◌++◌, slice_set};
 ghost use Rattle.flex_base.specs.Setup.{Setup};
 ghost use Rattle.flex_base.specs.State.{State, IsFit, set_reg};
 ghost use Rattle.flex_base.specs.Story.{story, works, want, ask, ends, Ends};
@@ -125,8 +125,14 @@ fn write(hart: &mut Hart, r: u8, value: u64) -> u64
     if r == 0 {
         return 0;
     }
-    if let Some(place) = hart.x.get_mut(r as usize) {
-        *place = value;
-    }
+    write_nonzero(&mut hart.x, r as usize, value);
     value
+}
+
+fn write_nonzero(x: &mut [u64], r: usize, value: u64)
+    ensures { x.new ≡ slice_set x.old r value }
+{
+    if r < x.len() {
+        x[r] = value;
+    }
 }

@@ -5,7 +5,7 @@ ghost use Rattle.flex_base.specs.Story.{works, ends, jumps};
 ghost use Rattle.flex_base.specs.Word.{wrap};
 ghost use Rattle.flex_base.specs.Decoding.{decoded};
 ghost use Rattle.hart_story.specs.StandsFor.{StandsFor};
-ghost use Rattle.hart_story.specs.Telling.{outcome_of};
+ghost use Rattle.hart_story.specs.Telling.{outcome_of, IsSoundOutcome};
 
 use crate::hart::Hart;
 use flex_base::{AluOp, Class, Op};
@@ -26,7 +26,8 @@ pub(crate) enum Outcome {
 
 // What the word does.
 pub(crate) fn work(hart: &Hart, word: u32) -> Outcome
-    ensures { (setup : Setup) (a : State) → StandsFor hart.now a → works setup a (decoded word) ≡ outcome_of a result }
+    ensures works { (setup : Setup) (a : State) → StandsFor hart.now a → works setup a (decoded word) ≡ outcome_of a result }
+    ensures sound { IsSoundOutcome hart.now result }
 {
     match decode(word) {
         Op::AluImm { op, rd, rs1, imm } => match op {
@@ -50,7 +51,8 @@ fn read(hart: &Hart, r: u8) -> u64
 
 // An end that computed a value.
 fn computed(hart: &Hart, rd: u8, value: u64) -> Outcome
-    ensures { (a : State) → StandsFor hart.now a → outcome_of a result ≡ ends a Class.Alu (wrap (a.pc + 4)) rd value }
+    ensures works { (a : State) → StandsFor hart.now a → outcome_of a result ≡ ends a Class.Alu (wrap (a.pc + 4)) rd value }
+    ensures sound { IsSoundOutcome hart.now result }
 {
     Outcome::End {
         class: Class::Alu,
@@ -62,7 +64,8 @@ fn computed(hart: &Hart, rd: u8, value: u64) -> Outcome
 
 // A jump, which links the next instruction. To a misaligned address it is an exception.
 fn jump(hart: &Hart, target: u64, rd: u8) -> Outcome
-    ensures { (a : State) → StandsFor hart.now a → outcome_of a result ≡ jumps a target rd }
+    ensures works { (a : State) → StandsFor hart.now a → outcome_of a result ≡ jumps a target rd }
+    ensures sound { IsSoundOutcome hart.now result }
 {
     if target % 4 != 0 {
         return Outcome::Unbuilt;
