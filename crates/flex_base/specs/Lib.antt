@@ -3,6 +3,7 @@ pub mod Limits
 pub mod Place
 pub mod Loaded
 pub mod Files
+pub mod InMemory
 pub mod Classes
 pub mod Decoding
 pub mod Arithmetic
