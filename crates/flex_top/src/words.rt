@@ -142,3 +142,83 @@ fn digits_value(word: &[u8]) -> Option<u64>
     }
     Some(value)
 }
+
+#[cfg(test)]
+mod tests {
+    use super::*;
+
+    use std::alloc::{AllocError, Global};
+
+    // The words of a line, parted by one space each.
+    fn words_of(alloc: Global, line: &str) -> Result<Vec<String>, AllocError> {
+        let mut words = Vec::new(alloc);
+        for word in line.split(' ') {
+            words.push(String::from_str(alloc, word)?)?;
+        }
+        Ok(words)
+    }
+
+    #[test]
+    fn reads_the_words(rt: HostRuntime) -> Result<(), AllocError> {
+        for (line, ram, budget) in [
+            ("solo img out", 16, 8192),
+            ("solo img out --ram=1 --budget=1", 1, 1),
+            ("solo img out --ram=256 --budget=262144", 256, 262_144),
+            ("solo img out --ram=0000000002 --budget=0000000003", 2, 3),
+        ] {
+            let words = words_of(rt.alloc(), line)?;
+            match read_words(&words) {
+                Some(command) => {
+                    assert_eq!(rt; command.image, "img", "image of {line}");
+                    assert_eq!(rt; command.trace, "out", "trace of {line}");
+                    assert_eq!(rt; command.ram, ram * 1_048_576, "ram of {line}");
+                    assert_eq!(rt; command.budget, budget, "budget of {line}");
+                }
+                None => assert!(rt; false, "no reading of {line}"),
+            }
+        }
+        Ok(())
+    }
+
+    #[test]
+    fn refuses_other_words(rt: HostRuntime) -> Result<(), AllocError> {
+        let none: [String; 0] = [];
+        assert!(rt; read_words(&none).is_none());
+        for line in [
+            "",
+            "solo",
+            "run img out",
+            "Solo img out",
+            "solo img",
+            "solo img out more",
+            "solo  out",
+            "solo img ",
+            "solo -img out",
+            "solo img -",
+            "solo img out --ram=1",
+            "solo img out --budget=1",
+            "solo img out --budget=1 --ram=1",
+            "solo --ram=1 --budget=1 img out",
+            "solo img out --ram=0 --budget=1",
+            "solo img out --ram=257 --budget=1",
+            "solo img out --ram=1 --budget=0",
+            "solo img out --ram=1 --budget=262145",
+            "solo img out --ram=00000000001 --budget=1",
+            "solo img out --ram=1 --budget=00000000001",
+            "solo img out --ram= --budget=1",
+            "solo img out --ram=1 --budget=",
+            "solo img out --ram=1k --budget=1",
+            "solo img out --ram=+1 --budget=1",
+            "solo img out --ram=1 --budget=-1",
+            "solo img out --ram 1 --budget=1",
+            "solo img out --ram 1",
+            "solo img out --ram=1 --ram=1",
+            "solo img out --ram=1 --budget=1 --budget=1",
+            "solo img out --ram=1 --budget=1 ",
+        ] {
+            let words = words_of(rt.alloc(), line)?;
+            assert!(rt; read_words(&words).is_none(), "a reading of {line}");
+        }
+        Ok(())
+    }
+}
