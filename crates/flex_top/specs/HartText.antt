@@ -24,13 +24,17 @@ mode_text mode.U = codes "u"
 mode_text mode.S = codes "s"
 mode_text mode.M = codes "m"
 
+-- what each line of a hart begins with
+abbrev pub of_hart : ℕ → List ℕ
+of_hart h = codes "hart " ++ decimal h
+
 -- a hart's first line
 unfoldable pub state_text : ℕ → State → List ℕ
-state_text h a = codes "hart " ++ decimal h ++ codes " ends " ++ decimal a.ends ++ codes " mode " ++ mode_text a.mode ++ codes " pc " ++ hex a.pc ++ codes "\n"
+state_text h a = of_hart h ++ codes " ends " ++ decimal a.ends ++ codes " mode " ++ mode_text a.mode ++ codes " pc " ++ hex a.pc ++ codes "\n"
 
 -- a register's line, where it isn't 0
 unfoldable pub register_text : ℕ → State → ℕ → List ℕ
-register_text h a r = if slice_index a.x r == 0 then [] else codes "hart " ++ decimal h ++ codes " x" ++ decimal r ++ codes " " ++ hex (slice_index a.x r) ++ codes "\n"
+register_text h a r = if slice_index a.x r == 0 then [] else of_hart h ++ codes " x" ++ decimal r ++ codes " " ++ hex (slice_index a.x r) ++ codes "\n"
 
 -- the CSRs that are shown, in this order
 abbrev pub shown_csrs : List ℕ
@@ -43,7 +47,7 @@ csr_value a number = if number == 0x300 then 0xa00000000 else (if number == 0xb0
 
 -- a CSR's line, where it isn't 0
 unfoldable pub csr_text : ℕ → State → ℕ → List ℕ
-csr_text h a number = if csr_value a number == 0 then [] else codes "hart " ++ decimal h ++ codes " csr " ++ hex_digits 3 number ++ codes " " ++ hex (csr_value a number) ++ codes "\n"
+csr_text h a number = if csr_value a number == 0 then [] else of_hart h ++ codes " csr " ++ hex_digits 3 number ++ codes " " ++ hex (csr_value a number) ++ codes "\n"
 
 unfoldable pub registers_text : ℕ → State → List ℕ
 registers_text h a = flat_map (register_text h a) (range_with_len 1 31)
@@ -58,3 +62,11 @@ hart_text h a = state_text h a ++ registers_text h a ++ csrs_text h a
 -- the line of the SHA-256 digest of these bytes
 unfoldable pub ram_text : List ℕ → List ℕ
 ram_text bytes = codes "ram " ++ flat_map (hex_digits 2) (sha256 bytes) ++ codes "\n"
+
+-- the lines of so many harts, in order
+unfoldable pub harts_text : ℕ → (ℕ → State) → List ℕ
+harts_text harts state = flat_map (λ h. hart_text h (state h)) (range_with_len 0 harts)
+
+-- the lines after the events
+unfoldable pub closing_text : Option Stop → ℕ → (ℕ → State) → List ℕ → List ℕ
+closing_text stop harts state ram = stop_text stop ++ harts_text harts state ++ ram_text ram ++ codes "done\n"

@@ -4,5 +4,5 @@
 mod text;
 mod words;
 
-pub use text::{event_line, header_line};
+pub use text::{SHOWN_CSRS, csr_line, digest_line, event_line, hart_line, header_line, register_line, stop_line};
 pub use words::{Command, read_words};
