@@ -1,13 +1,8 @@
-// A library with one function.
+//! The commands but `run`: the words, the image, a run on one thread, the trace text and its file.
 #![tactic(auto)]
 
-ghost use Rattle.std.specs.Prelude.{◌≡◌};
-ghost use Rattle.flex_top.specs.Echo.{echo_of};
+mod text;
+mod words;
 
-// The `ensures` clause is the contract: what `echo` returns is `echo_of` of its argument, a definition
-// in `specs/Echo.antt`, which a caller's clause can cite too.
-pub fn echo(x: usize) -> usize
-    ensures { result ≡ echo_of x }
-{
-    x
-}
+pub use text::{SHOWN_CSRS, csr_line, digest_line, event_line, hart_line, header_line, register_line, stop_line};
+pub use words::{Command, read_words};

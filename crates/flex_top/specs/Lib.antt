@@ -1,0 +1,5 @@
+pub mod Words
+pub mod TraceText
+pub mod HartText
+pub mod Trace
+pub mod Written
