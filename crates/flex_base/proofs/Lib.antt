@@ -2,3 +2,4 @@ pub mod Places
 pub mod Stories
 pub mod Machines
 pub mod Orders
+pub mod Turns

@@ -5,7 +5,7 @@ use Rattle.flex_base.specs.Setup.{Setup}
 use Rattle.flex_base.specs.State.{State}
 use Rattle.flex_base.specs.Place.{in_ram}
 use Rattle.flex_base.specs.Decoding.{decoded}
-use Rattle.flex_base.specs.Story.{Want, Asks, Ends, IsOver, IsLater, Story, Says, Closes, story, pulses, fetches, works, traps, is_tick, goes, want, ask}
+use Rattle.flex_base.specs.Story.{Want, Asks, Ends, IsOver, IsLater, Story, Says, Closes, StaysOver, ComesLater, story, pulses, fetches, works, traps, is_tick, goes, want, ask}
 use Rattle.flex_base.specs.declared.access.Access.TheVariants as acc
 use Rattle.flex_base.specs.declared.access.Reply.{Reply}
 use Rattle.flex_base.specs.declared.event.EndPart.{EndPart}
@@ -13,29 +13,35 @@ use Rattle.flex_base.specs.declared.event.EndPart.{EndPart}
 -- what follows one reply
 abbrev pub after_one : Story → Reply → Story
 after_one (Says access next) reply = next reply
-after_one (Closes want) reply = Closes want
+after_one (Closes part after) reply = Closes part after
+after_one StaysOver reply = StaysOver
+after_one ComesLater reply = ComesLater
 
 pub goes_push : (s : Story) (replies : List Reply) (reply : Reply) → goes s (replies ++ reply ∷ []) ≡ after_one (goes s replies) reply
 goes_push (Says access next) [] reply = refl
 goes_push (Says access next) (r ∷ replies) reply = goes_push (next r) replies reply
-goes_push (Closes want) [] reply = refl
-goes_push (Closes want) (r ∷ replies) reply = refl
+goes_push (Closes part after) [] reply = refl
+goes_push (Closes part after) (r ∷ replies) reply = refl
+goes_push StaysOver [] reply = refl
+goes_push StaysOver (r ∷ replies) reply = refl
+goes_push ComesLater [] reply = refl
+goes_push ComesLater (r ∷ replies) reply = refl
 
--- what has closed stays closed
-pub goes-closes : (w : Want) (replies : List Reply) → goes (Closes w) replies ≡ Closes w
-goes-closes w [] = refl
-goes-closes w (reply ∷ replies) = refl
+-- a hart that is over stays so
+pub goes-StaysOver : (replies : List Reply) → goes StaysOver replies ≡ StaysOver
+goes-StaysOver [] = refl
+goes-StaysOver (reply ∷ replies) = refl
 
 -- The story by its first event.
 
 abbrev pub retires : Story
-retires = Says acc.Retire (λ reply. Closes IsOver)
+retires = Says acc.Retire (λ reply. StaysOver)
 
 abbrev pub goes_on : Setup → State → Story
 goes_on setup a = Says (acc.Fetch a.pc) (λ reply. works setup a (decoded reply.value))
 
 abbrev pub after_pulse : Setup → State → Reply → Story
-after_pulse setup a reply = if reply.stop then Closes IsOver else fetches setup (record a { lines = reply.lines })
+after_pulse setup a reply = if reply.stop then StaysOver else fetches setup (record a { lines = reply.lines })
 
 pub story_spent : (setup : Setup) (a : State) → a.ends ≡ setup.budget → story setup a ≡ retires
 story_spent setup a spent = ap (λ b. if b then retires else pulses setup a) (eq-eqb a.ends setup.budget spent)
@@ -75,7 +81,7 @@ story_begins setup a = elim (a.ends == setup.budget) as (λ b. IsBeginning (want
 -- a hart that has spent its budget comes to no end
 spent_never_ends : (replies : List Reply) (part : EndPart) (after : State) → want (goes retires replies) ≡ Ends part after → ⊥
 spent_never_ends [] part after e = cc
-spent_never_ends (reply ∷ replies) part after e = let over = ap want (goes-closes IsOver replies) in cc
+spent_never_ends (reply ∷ replies) part after e = let over = ap want (goes-StaysOver replies) in cc
 
 pub ends_unspent : (setup : Setup) (a : State) (replies : List Reply) (part : EndPart) (after : State) → ask setup a replies ≡ Ends part after → a.ends ≢ setup.budget
 ends_unspent setup a replies part after ends spent = spent_never_ends replies part after (ap (λ s. want (goes s replies)) (sym (story_spent setup a spent)) ∙ ends)

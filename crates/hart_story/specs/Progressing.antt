@@ -3,7 +3,7 @@ use Rattle.std.specs.Prelude.{◌≡◌, ℕ, ◌<◌, ◌≤◌, true, List, []
 use Rattle.flex_base.specs.Setup.{Setup}
 use Rattle.flex_base.specs.State.{State, IsFit}
 use Rattle.flex_base.specs.Decoding.{decoded}
-use Rattle.flex_base.specs.Story.{Want, Asks, Ends, IsOver, Story, Closes, story, works, goes, ask}
+use Rattle.flex_base.specs.Story.{Want, Asks, Ends, Story, Closes, StaysOver, story, works, goes, ask}
 use Rattle.flex_base.specs.Built.{is_built_access, is_built_class}
 use Rattle.flex_base.specs.declared.access.Access.{Access}
 use Rattle.flex_base.specs.declared.access.Reply.{Reply}
@@ -24,7 +24,7 @@ pub record IsOf (setup : Setup) (layout : Layout) (most : ℕ) : Type 0 where
 abbrev pub node : Setup → State → Progress → Story
 node setup a progress.Begun = story setup a
 node setup a (progress.Fetched word) = works setup a (decoded word)
-node setup a progress.Retired = Closes IsOver
+node setup a progress.Retired = StaysOver
 
 -- the replies lead to where the hart is
 abbrev pub Reached : Setup → State → Progress → List Reply → Type 0
@@ -55,7 +55,7 @@ pub record IsEnding (setup : Setup) (a : State) (replies : List Reply) (part : E
 
 -- the story closes with this end, and the hart stands for the state after it
 abbrev pub CommitsTo : Hart → EndPart → Story → Type 0
-CommitsTo hart part (Closes (Ends made after)) = (part ≡ made) × StandsFor hart after
+CommitsTo hart part (Closes made after) = (part ≡ made) × StandsFor hart after
 CommitsTo hart part other = ⊥
 
 -- the want is this end, and the hart stands for the state after it, which is fit

@@ -3,7 +3,7 @@ use Rattle.std.specs.Prelude.{◌≡◌, ℕ, true, if◌then◌else◌}
 use Rattle.flex_base.specs.Word.{is_multiple}
 use Rattle.flex_base.specs.Setup.{Setup}
 use Rattle.flex_base.specs.State.{State, IsFit}
-use Rattle.flex_base.specs.Story.{Want, Asks, Ends, IsOver, IsLater, Story, Closes, ends}
+use Rattle.flex_base.specs.Story.{Want, Asks, Ends, IsOver, IsLater, Story, ComesLater, ends}
 use Rattle.flex_base.specs.Built.{is_built_access, is_built_class}
 use Rattle.flex_base.specs.Classes.{class_of_access}
 use Rattle.flex_base.specs.Forms.{IsPlaced}
@@ -29,7 +29,7 @@ AsksPlaced setup other = Unit {0}
 -- what the work of an instruction comes to
 abbrev pub outcome_of : State → Outcome → Story
 outcome_of a (outcome.End class next rd value) = ends a class next rd value
-outcome_of a outcome.Unbuilt = Closes IsLater
+outcome_of a outcome.Unbuilt = ComesLater
 
 -- an end that the work comes to is built, and goes on at a multiple of 4 where the instruction stands at one
 pub record IsSound (hart : Hart) (class : Class) (next : ℕ) : Type 0 where

@@ -1,4 +1,4 @@
-ghost use Rattle.std.specs.Prelude.{◌≡◌, ◌==◌, if◌then◌else◌, ◌-◌, ◌^◌, ◌<◌, List, [], ◌∷◌, ◌++◌, slice_set};
+ghost use Rattle.std.specs.Prelude.{◌≡◌, ◌≢◌, ◌+◌, ◌==◌, if◌then◌else◌, ◌-◌, ◌^◌, ◌<◌, List, [], ◌∷◌, ◌++◌, slice_set};
 ghost use Rattle.flex_base.specs.Setup.{Setup};
 ghost use Rattle.flex_base.specs.State.{State, IsFit, set_reg};
 ghost use Rattle.flex_base.specs.Story.{story, works, want, ask, ends, Ends};
@@ -22,6 +22,7 @@ pub fn need(hart: &Hart, progress: &Progress, layout: &Layout, budget: u64) -> N
         → result ≡ told (ask setup a replies) }
     ensures placed { (setup : Setup) (a : State) (replies : List Reply) → IsIn setup a replies hart.now progress.now layout.now budget
         → AsksPlaced setup result }
+    ensures over { result ≡ Need.Over → progress.now ≡ Progress.Retired }
 {
     match *progress {
         Progress::Begun => first_need(hart, layout, budget),
@@ -49,8 +50,9 @@ pub fn give(hart: &Hart, progress: &mut Progress, layout: &Layout, budget: u64, 
 pub fn finish(hart: &mut Hart, progress: Progress, layout: &Layout, budget: u64) -> EndPart
     requires { (setup : Setup) × (a : State) × (replies : List Reply) × (part : EndPart) × (after : State)
         × IsIn setup a replies hart.old progress layout.now budget × IsEnding setup a replies part after }
-    ensures { (setup : Setup) (a : State) (replies : List Reply) (part : EndPart) (after : State) → IsIn setup a replies hart.old progress layout.now budget
+    ensures ends { (setup : Setup) (a : State) (replies : List Reply) (part : EndPart) (after : State) → IsIn setup a replies hart.old progress layout.now budget
         → IsEnding setup a replies part after → EndsWith setup (ask setup a replies) result hart.new }
+    ensures count { hart.new.ends ≡ hart.old.ends + 1 }
 {
     match progress {
         Progress::Fetched(word) => match work(hart, word) {
@@ -70,6 +72,7 @@ pub fn finish(hart: &mut Hart, progress: Progress, layout: &Layout, budget: u64)
 fn first_need(hart: &Hart, layout: &Layout, budget: u64) -> Need
     ensures told { (setup : Setup) (a : State) → IsOf setup layout.now budget → StandsFor hart.now a → result ≡ told (want (story setup a)) }
     ensures placed { (setup : Setup) (a : State) → IsOf setup layout.now budget → StandsFor hart.now a → IsFit setup.ram setup.budget a → AsksPlaced setup result }
+    ensures goes_on { result ≢ Need.Over }
 {
     if hart.ends == budget {
         return Need::Ask(Access::Retire, Class::Pulse);
@@ -93,6 +96,7 @@ fn is_pulse_due(hart: &Hart) -> bool
 fn last_need(hart: &Hart, word: u32) -> Need
     ensures told { (setup : Setup) (a : State) → StandsFor hart.now a → result ≡ told (want (works setup a (decoded word))) }
     ensures placed { (setup : Setup) → AsksPlaced setup result }
+    ensures goes_on { result ≢ Need.Over }
 {
     match work(hart, word) {
         Outcome::End { class, .. } => Need::Finish(class),
@@ -103,7 +107,8 @@ fn last_need(hart: &Hart, word: u32) -> Need
 // The end of an instruction, on the hart.
 fn commit(hart: &mut Hart, class: Class, next: u64, rd: u8, value: u64) -> EndPart
     requires { hart.old.ends < 2 ^ 64 - 1 }
-    ensures { (a : State) → StandsFor hart.old a → CommitsTo hart.new result (ends a class next rd value) }
+    ensures commits { (a : State) → StandsFor hart.old a → CommitsTo hart.new result (ends a class next rd value) }
+    ensures count { hart.new.ends ≡ hart.old.ends + 1 }
 {
     let pc = hart.pc;
     hart.pc = next;

@@ -23,10 +23,10 @@ unreachable-requires c =
     let later : ask c.requires.0 c.requires.1 c.requires.2 ≡ IsLater = ap want (at.reached ∙ ap (node c.requires.0 c.requires.1) c.in-Fetched.is ∙ c.in-Unbuilt.ensures.works c.requires.0 c.requires.1 at.stands) in
     later_never_ends _ c.requires.3 c.requires.4 later c.requires.6.ends
 
-pub returns : goal.returns
-returns c = λ setup a replies part after at ending.
+pub returns-clause-ends : goal.returns-clause-ends
+returns-clause-ends c = λ setup a replies part after at ending.
     let is_end = ap want (at.reached ∙ ap (node setup a) c.in-Fetched.is ∙ c.in-End.ensures.works setup a at.stands) in
-    let committed = c.commit.ensures a at.stands in
+    let committed = c.commit.ensures.commits a at.stands in
     let unspent = ends_unspent setup a replies part after ending.ends in
     let left : State = record a { pc = c.in-End.next; x = set_reg a.x c.in-End.rd c.in-End.value; ends = a.ends + 1; due = is_multiple (a.ends + 1) 64 } in
     record {
