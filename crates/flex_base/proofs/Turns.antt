@@ -44,7 +44,7 @@ story_later ComesLater e = refl
 
 -- a turn goes on after an access
 pub turn_of-asks : (setup : Setup) (u : Machine) (h : ℕ) (access : Access) → h < setup.harts → h < length u.harts → want_of setup u h ≡ Asks access
-  → turn_of setup u h ≡ h ∷ turn_of setup (step setup u h) h
+    → turn_of setup u h ≡ h ∷ turn_of setup (step setup u h) h
 turn_of-asks setup u h access below within asks =
     let says = story_asks access (story_of setup u h) asks in
     ap (turn setup u h) says.1
@@ -81,7 +81,7 @@ first_unbuilt-append setup u (h ∷ xs) ys =
 
 -- One hart alone.
 
-names_alone : (setup : Setup) → setup.harts ≡ 1 → hart_numbers setup ≡ 0 ∷ []
+pub names_alone : (setup : Setup) → setup.harts ≡ 1 → hart_numbers setup ≡ 0 ∷ []
 names_alone setup one = ap (range_with_len 0) one
 
 pub stop_alone : (setup : Setup) (u : Machine) → setup.harts ≡ 1 → is_spent u.devices 0 ≡ true → stop_of setup u ≡ Some stop.Budget
@@ -111,5 +111,5 @@ turns_ended setup u [] ended = refl
 turns_ended setup u (h ∷ harts) ended = ap (λ b. if b then [] else turn_of setup u h ++ turns setup (reach_from setup u (turn_of setup u h)) harts) ended
 
 pub turns_busy : (setup : Setup) (u : Machine) (h : ℕ) (harts : List ℕ) → has_ended setup u ≡ false
-  → turns setup u (h ∷ harts) ≡ turn_of setup u h ++ turns setup (reach_from setup u (turn_of setup u h)) harts
+    → turns setup u (h ∷ harts) ≡ turn_of setup u h ++ turns setup (reach_from setup u (turn_of setup u h)) harts
 turns_busy setup u h harts busy = ap (λ b. if b then [] else turn_of setup u h ++ turns setup (reach_from setup u (turn_of setup u h)) harts) busy

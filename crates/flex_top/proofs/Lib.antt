@@ -1,2 +1,4 @@
 pub mod WordsLemmas
 pub mod HexDigits
+pub mod Playing
+pub mod Rounds

@@ -11,11 +11,12 @@ use Rattle.flex_base.specs.declared.access.Access.{Access}
 use Rattle.flex_base.specs.declared.access.Access.TheVariants as acc
 use Rattle.flex_base.specs.declared.access.Reply.{Reply}
 use Rattle.flex_base.specs.declared.class.Class.TheVariants as class
+use Rattle.flex_base.specs.declared.event.EndPart.{EndPart}
 use Rattle.flex_base.specs.declared.operation.Op.{Op}
 use Rattle.flex_base.specs.declared.operation.Op.TheVariants as op
 use Rattle.flex_base.specs.declared.operation.AluOp.TheVariants as alu
 use Rattle.flex_base.proofs.Stories.{goes_push, after_one, retires, goes_on, story_spent, story_due, story_fetches, story_outside}
-use Rattle.hart_story.specs.Progressing.{node, Reached, IsIn, IsAsking}
+use Rattle.hart_story.specs.Progressing.{node, Reached, IsIn, IsAsking, is_retired}
 use Rattle.hart_story.specs.declared.progress.Progress.{Progress}
 use Rattle.hart_story.specs.declared.progress.Progress.TheVariants as progress
 
@@ -55,3 +56,12 @@ reached_after setup a p q replies reply access reached asks next =
     goes_push (story setup a) replies reply
     ∙ ap (λ s. after_one s reply) (reached ∙ ap (node setup a) (asks_begun setup a p replies access reached asks))
     ∙ next
+
+ends_by : (setup : Setup) (a : State) (p : Progress) (part : EndPart) (after : State) → want (node setup a p) ≡ Ends part after → is_retired p ≡ false
+ends_by setup a progress.Begun part after e = refl
+ends_by setup a (progress.Fetched word) part after e = refl
+ends_by setup a progress.Retired part after e = absurd cc
+
+-- a hart that is at the end of an instruction hasn't retired
+pub ends_unretired : (setup : Setup) (a : State) (p : Progress) (replies : List Reply) (part : EndPart) (after : State) → Reached setup a p replies → ask setup a replies ≡ Ends part after → is_retired p ≡ false
+ends_unretired setup a p replies part after reached ends = ends_by setup a p part after (sym (ap want reached) ∙ ends)

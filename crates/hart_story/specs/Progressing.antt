@@ -1,5 +1,5 @@
 -- How far a hart in the code has come in the story of its instruction.
-use Rattle.std.specs.Prelude.{◌≡◌, ℕ, ◌<◌, ◌≤◌, true, List, [], ◌∷◌, ◌++◌}
+use Rattle.std.specs.Prelude.{◌≡◌, ℕ, ◌<◌, ◌≤◌, Bool, true, false, List, [], ◌∷◌, ◌++◌}
 use Rattle.flex_base.specs.Setup.{Setup}
 use Rattle.flex_base.specs.State.{State, IsFit}
 use Rattle.flex_base.specs.Decoding.{decoded}
@@ -29,6 +29,11 @@ node setup a progress.Retired = StaysOver
 -- the replies lead to where the hart is
 abbrev pub Reached : Setup → State → Progress → List Reply → Type 0
 Reached setup a progress replies = goes (story setup a) replies ≡ node setup a progress
+
+-- the hart has retired
+abbrev pub is_retired : Progress → Bool
+is_retired progress.Retired = true
+is_retired other = false
 
 -- how many accesses may still come before the end
 abbrev pub left : Progress → ℕ

@@ -6,7 +6,7 @@ ghost use Rattle.flex_base.specs.Forms.{HasForm};
 ghost use Rattle.flex_base.specs.declared.access.Access.{Access};
 ghost use Rattle.flex_base.specs.declared.access.Reply.{Reply};
 ghost use Rattle.flex_base.specs.declared.event.EndPart.{EndPart};
-ghost use Rattle.hart_story.specs.Progressing.{IsOf, IsIn, IsAsking, IsEnding, EndsWith, CommitsTo, left};
+ghost use Rattle.hart_story.specs.Progressing.{IsOf, IsIn, IsAsking, IsEnding, EndsWith, CommitsTo, left, is_retired};
 ghost use Rattle.flex_base.specs.Decoding.{decoded};
 ghost use Rattle.hart_story.specs.StandsFor.{StandsFor};
 ghost use Rattle.hart_story.specs.Telling.{told, AsksPlaced};
@@ -38,6 +38,7 @@ pub fn give(hart: &Hart, progress: &mut Progress, layout: &Layout, budget: u64, 
     ensures reached { (setup : Setup) (a : State) (replies : List Reply) (access : Access) → IsIn setup a replies hart.now progress.old layout.now budget
         → IsAsking setup a replies access → IsIn setup a (replies ++ reply ∷ []) hart.now progress.new layout.now budget }
     ensures nearer { left progress.new < left progress.old }
+    ensures retired { is_retired progress.new ≡ (hart.now.ends == budget) }
 {
     if hart.ends == budget {
         *progress = Progress::Retired;

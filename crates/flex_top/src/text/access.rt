@@ -15,16 +15,27 @@ pub(crate) fn put_access(line: &mut Line, access: &Access, reply: &Reply)
         Access::Fetch { address } => put_fetch(line, *address, reply.value),
         Access::Pte { address } => put_pte(line, *address, reply.value),
         Access::Read { address, width } => put_moved(line, b"read ", *address, *width, reply.value),
-        Access::Write { address, width, value } => {
-            put_moved(line, b"write ", *address, *width, *value)
-        }
+        Access::Write {
+            address,
+            width,
+            value,
+        } => { put_moved(line, b"write ", *address, *width, *value) }
         Access::Lr { address, width } => put_moved(line, b"lr ", *address, *width, reply.value),
-        Access::Sc { address, width, value } => {
+        Access::Sc {
+            address,
+            width,
+            value,
+        } => {
             put_moved(line, b"sc ", *address, *width, *value);
             put(line, b" ");
             put_number(line, reply.value);
         }
-        Access::Amo { op, address, width, value } => {
+        Access::Amo {
+            op,
+            address,
+            width,
+            value,
+        } => {
             put(line, b"amo ");
             put_amo(line, *op);
             put_moved(line, b" ", *address, *width, *value);
@@ -34,9 +45,11 @@ pub(crate) fn put_access(line: &mut Line, access: &Access, reply: &Reply)
         Access::DevRead { address, width } => {
             put_moved(line, b"devread ", *address, *width, reply.value)
         }
-        Access::DevWrite { address, width, value } => {
-            put_moved(line, b"devwrite ", *address, *width, *value)
-        }
+        Access::DevWrite {
+            address,
+            width,
+            value,
+        } => { put_moved(line, b"devwrite ", *address, *width, *value) }
         Access::Pulse { tick } => {
             put(line, b"pulse ");
             put_flag(line, *tick);
