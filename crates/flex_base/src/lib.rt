@@ -38,3 +38,6 @@ pub use real_outer::RealOuter;
 pub use settings::{Layout, Place, RAM_BASE, Settings};
 pub use steady_outer::SteadyOuter;
 pub use text::Text;
+
+#[cfg(test)]
+mod tests;
