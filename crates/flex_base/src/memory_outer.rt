@@ -1,4 +1,4 @@
-ghost use Rattle.std.specs.Prelude.{◌≡◌, ◌↔◌, ◌⊎◌, ◌≢◌, ℕ, ◌≤◌, ◌<◌, ◌-◌, ◌^◌, ◌++◌, List, [], length, None, Some, IfOk, IfSome, IsErr, IsErrOf, IsTrue, OnOk, OnErr, option_map};
+ghost use Rattle.std.specs.Prelude.{◌≡◌, ◌↔◌, ◌⊎◌, ℕ, ◌≤◌, ◌++◌, List, [], length, None, Some, IfOk, IfSome, IsErr, IsErrOf, IsTrue, OnOk, OnErr, option_map};
 ghost use Rattle.std.specs.Result.{result_map_both};
 ghost use Rattle.flex_base.specs.Files.{Taken, Counts, ChangesFile, Appended, AppendedPart, Started};
 ghost use Rattle.flex_base.specs.InMemory.{files_of, named, is_due, one_more};
@@ -33,7 +33,7 @@ impl MemoryOuter {
     /// in `failing` fail and write nothing.
     pub fn new(alloc: Global, files: Vec<(Text, Vec<u8>)>, failing: Vec<u64>) -> MemoryOuter
         ensures held { ⟦<MemoryOuter as Outer>⟧.held result ≡ Some (files_of (named files.items)) }
-        ensures written { (name : List ℕ) → IfSome (⟦<MemoryOuter as Outer>⟧.written result) (λ files. files name ≡ None) }
+        ensures written { ⟦<MemoryOuter as Outer>⟧.written result ≡ Some (λ _. None) }
         ensures said { ⟦<MemoryOuter as Outer>⟧.said result ≡ Some [] }
         ensures read_faults { ⟦<MemoryOuter as Outer>⟧.read_faults result ≡ 0 }
         ensures write_faults { ⟦<MemoryOuter as Outer>⟧.write_faults result ≡ 0 }
@@ -54,7 +54,8 @@ impl MemoryOuter {
 
     /// The bytes of the written file of this name, or None where no file of that name was written.
     pub fn written(&self, name: &str) -> Option<&[u8]>
-        ensures { IfSome (⟦<MemoryOuter as Outer>⟧.written self.now) (λ files. option_map (λ r. r.now) result ≡ files name.now) }
+        ensures { IfSome (⟦<MemoryOuter as Outer>⟧.written self.now)
+            (λ files. option_map (λ r. r.now) result ≡ files name.now) }
     {
         look(&self.written, name)
     }
@@ -80,9 +81,11 @@ impl Outer for MemoryOuter {
 
     /// It answers `Failed` exactly where the call is one that fails or no such file is held.
     fn take(&mut self, name: &str, limit: u64) -> Result<Vec<u8>, TakeFault>
-        ensures taken { Taken (Some (held_files self.old)) name.now limit (result_map_both (λ v. v.items) (λ e. e) result) }
+        ensures taken { Taken (Some (held_files self.old)) name.now limit
+            (result_map_both (λ v. v.items) (λ e. e) result) }
         ensures within { IfOk result (λ v. length v.items ≤ limit) }
-        ensures failed { (result ≡ Err TakeFault.Failed) ↔ (IsTrue (fails_next self.old) ⊎ (held_files self.old name.now ≡ None)) }
+        ensures failed { (result ≡ Err TakeFault.Failed)
+            ↔ (IsTrue (fails_next self.old) ⊎ (held_files self.old name.now ≡ None)) }
         ensures cause { Counts (failed_reads self.old) (failed_reads self.new) (IsErrOf result TakeFault.Failed) }
         ensures counted { MadeOneCall self.old self.new }
 
@@ -107,8 +110,10 @@ impl Outer for MemoryOuter {
     /// Where it fails, nothing is written.
     fn start(&mut self, name: &str) -> Result<(), Failed>
         ensures due { IsTrue (fails_next self.old) → IsErr result }
-        ensures ok { OnOk result (ChangesFile (Some (written_files self.old)) (Some (written_files self.new)) name.now Started) }
-        ensures nothing { OnErr result ((any : List ℕ) → written_files self.new any ≡ written_files self.old any) }
+        ensures ok { OnOk result
+            (ChangesFile (Some (written_files self.old)) (Some (written_files self.new)) name.now Started) }
+        ensures nothing { OnErr result
+            ((any : List ℕ) → written_files self.new any ≡ written_files self.old any) }
         ensures cause { Counts (failed_writes self.old) (failed_writes self.new) (IsErr result) }
         ensures counted { MadeOneCall self.old self.new }
 
@@ -132,9 +137,12 @@ impl Outer for MemoryOuter {
     /// Where it fails, nothing is written.
     fn add(&mut self, name: &str, bytes: &[u8]) -> Result<(), Failed>
         ensures due { IsTrue (fails_next self.old) → IsErr result }
-        ensures ok { OnOk result (ChangesFile (Some (written_files self.old)) (Some (written_files self.new)) name.now (Appended bytes.now)) }
-        ensures err { OnErr result (ChangesFile (Some (written_files self.old)) (Some (written_files self.new)) name.now (AppendedPart bytes.now)) }
-        ensures nothing { OnErr result ((any : List ℕ) → written_files self.new any ≡ written_files self.old any) }
+        ensures ok { OnOk result
+            (ChangesFile (Some (written_files self.old)) (Some (written_files self.new)) name.now (Appended bytes.now)) }
+        ensures err { OnErr result
+            (ChangesFile (Some (written_files self.old)) (Some (written_files self.new)) name.now (AppendedPart bytes.now)) }
+        ensures nothing { OnErr result
+            ((any : List ℕ) → written_files self.new any ≡ written_files self.old any) }
         ensures cause { Counts (failed_writes self.old) (failed_writes self.new) (IsErr result) }
         ensures counted { MadeOneCall self.old self.new }
 

@@ -129,6 +129,7 @@ fn real_outer_writes_and_takes_files(rt: HostRuntime) -> Result<(), Fail> {
     );
     assert_eq!(rt; outer.take("missing", 11).err(), Some(TakeFault::Failed));
     assert_eq!(rt; outer.take(".", u64::MAX).err(), Some(TakeFault::Failed));
+    assert_eq!(rt; outer.take(".", 1).err(), Some(TakeFault::Failed));
     assert_eq!(rt; outer.add("missing/file", b"x").err(), Some(Failed));
     outer.say(b"")?;
     fs::remove_file(&rt, "written")?;
