@@ -1,5 +1,5 @@
 -- Files in memory, as contracts see them.
-use Rattle.std.specs.Prelude.{◌≡◌, ℕ, ◌+◌, ◌-◌, ◌^◌, Bool, ◌==◌, nat_lt, if◌then◌else◌, List, map, Option, option_map, String, Vec}
+use Rattle.std.specs.Prelude.{ℕ, ◌+◌, ◌-◌, ◌^◌, Bool, ◌==◌, nat_lt, if◌then◌else◌, List, map, Some, option_map, unwrap_or, [], String, Vec}
 use Rattle.std.specs.List.{list_any}
 use Rattle.std.specs.Map.{lookup}
 use Rattle.std.specs.Str.{bytes_eq}
@@ -10,6 +10,10 @@ use Rattle.flex_base.specs.Files.{Files}
 -- the files of a list of names and contents; of one name the first counts
 abbrev pub files_of : List (List ℕ × List ℕ) → Files
 files_of files name = lookup (bytes_eq name) files
+
+-- the same, where a name that isn't listed is an empty file
+abbrev pub files_or_empty : List (List ℕ × List ℕ) → Files
+files_or_empty files name = Some (unwrap_or (files_of files name) [])
 
 -- the names and contents of a list of files
 abbrev pub named : List (List ℕ × Vec ℕ Global) → List (List ℕ × List ℕ)

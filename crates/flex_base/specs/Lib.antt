@@ -4,6 +4,7 @@ pub mod Place
 pub mod Loaded
 pub mod Files
 pub mod InMemory
+pub mod Memory
 pub mod Classes
 pub mod Decoding
 pub mod Arithmetic

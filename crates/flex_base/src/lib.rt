@@ -20,6 +20,7 @@ mod operation;
 mod outer;
 mod real_outer;
 mod settings;
+mod steady_outer;
 mod text;
 
 pub use access::{Access, Reply, access_class};
@@ -35,4 +36,8 @@ pub use operation::{AluOp, AmoOp, BranchOp, CsrOp, MulOp, Op};
 pub use outer::{Failed, Outer, TakeFault};
 pub use real_outer::RealOuter;
 pub use settings::{Layout, Place, RAM_BASE, Settings};
+pub use steady_outer::SteadyOuter;
 pub use text::Text;
+
+#[cfg(test)]
+mod tests;

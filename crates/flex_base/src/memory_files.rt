@@ -55,7 +55,8 @@ pub(crate) fn make_empty(
     name: &str,
 ) -> Result<(), Failed>
     ensures ok { OnOk result (stored files.new name.now ≡ Some []) }
-    ensures others { OnOk result ((other : List ℕ) → other ≢ name.now → stored files.new other ≡ stored files.old other) }
+    ensures others { OnOk result
+        ((other : List ℕ) → other ≢ name.now → stored files.new other ≡ stored files.old other) }
     ensures err { OnErr result ((any : List ℕ) → stored files.new any ≡ stored files.old any) }
 {
     let key = match String::from_str(alloc, name) {
@@ -75,8 +76,10 @@ pub(crate) fn append(
     name: &str,
     bytes: &[u8],
 ) -> Result<(), Failed>
-    ensures ok { OnOk result (stored files.new name.now ≡ Some (unwrap_or (stored files.old name.now) [] ++ bytes.now)) }
-    ensures others { OnOk result ((other : List ℕ) → other ≢ name.now → stored files.new other ≡ stored files.old other) }
+    ensures ok { OnOk result
+        (stored files.new name.now ≡ Some (unwrap_or (stored files.old name.now) [] ++ bytes.now)) }
+    ensures others { OnOk result
+        ((other : List ℕ) → other ≢ name.now → stored files.new other ≡ stored files.old other) }
     ensures err { OnErr result ((any : List ℕ) → stored files.new any ≡ stored files.old any) }
 {
     match files.get_mut(name) {
@@ -99,7 +102,8 @@ fn append_new(
     bytes: &[u8],
 ) -> Result<(), Failed>
     ensures ok { OnOk result (stored files.new name.now ≡ Some bytes.now) }
-    ensures others { OnOk result ((other : List ℕ) → other ≢ name.now → stored files.new other ≡ stored files.old other) }
+    ensures others { OnOk result
+        ((other : List ℕ) → other ≢ name.now → stored files.new other ≡ stored files.old other) }
     ensures err { OnErr result ((any : List ℕ) → stored files.new any ≡ stored files.old any) }
 {
     let key = match String::from_str(alloc, name) {

@@ -1,7 +1,8 @@
-ghost use Rattle.std.specs.Prelude.{◌≡◌, ◌≢◌, ℕ, ◌≤◌, ◌<◌, ◌-◌, ◌^◌, ◌++◌, List, [], length, None, Some, IfOk, IfSome, IsErr, IsErrOf, IsTrue, OnOk, OnErr, option_map};
+ghost use Rattle.std.specs.Prelude.{◌≡◌, ◌↔◌, ◌⊎◌, ℕ, ◌≤◌, ◌++◌, List, [], length, None, Some, IfOk, IfSome, IsErr, IsErrOf, IsTrue, OnOk, OnErr, option_map};
 ghost use Rattle.std.specs.Result.{result_map_both};
-ghost use Rattle.flex_base.specs.Files.{Taken, Counts, ChangesFile, Appended, AppendedPart, Started, StartedPart, ChangesText, Said, SaidPart};
-ghost use Rattle.flex_base.specs.InMemory.{files_of, named, stored, is_due, one_more};
+ghost use Rattle.flex_base.specs.Files.{Taken, Counts, ChangesFile, Appended, AppendedPart, Started};
+ghost use Rattle.flex_base.specs.InMemory.{files_of, named, is_due, one_more};
+ghost use Rattle.flex_base.specs.Memory.{held_files, written_files, said_bytes, failed_reads, failed_writes, calls_made, failing_calls, fails_next, MadeOneCall};
 
 use crate::counts::rise;
 use crate::memory_files::{append, copy, find, look, make_empty};
@@ -32,10 +33,12 @@ impl MemoryOuter {
     /// in `failing` fail and write nothing.
     pub fn new(alloc: Global, files: Vec<(Text, Vec<u8>)>, failing: Vec<u64>) -> MemoryOuter
         ensures held { ⟦<MemoryOuter as Outer>⟧.held result ≡ Some (files_of (named files.items)) }
-        ensures written { (name : List ℕ) → IfSome (⟦<MemoryOuter as Outer>⟧.written result) (λ files. files name ≡ None) }
+        ensures written { ⟦<MemoryOuter as Outer>⟧.written result ≡ Some (λ _. None) }
         ensures said { ⟦<MemoryOuter as Outer>⟧.said result ≡ Some [] }
         ensures read_faults { ⟦<MemoryOuter as Outer>⟧.read_faults result ≡ 0 }
         ensures write_faults { ⟦<MemoryOuter as Outer>⟧.write_faults result ≡ 0 }
+        ensures calls { calls_made result ≡ 0 }
+        ensures failing { failing_calls result ≡ failing.items }
     {
         MemoryOuter {
             alloc,
@@ -51,7 +54,8 @@ impl MemoryOuter {
 
     /// The bytes of the written file of this name, or None where no file of that name was written.
     pub fn written(&self, name: &str) -> Option<&[u8]>
-        ensures { IfSome (⟦<MemoryOuter as Outer>⟧.written self.now) (λ files. option_map (λ r. r.now) result ≡ files name.now) }
+        ensures { IfSome (⟦<MemoryOuter as Outer>⟧.written self.now)
+            (λ files. option_map (λ r. r.now) result ≡ files name.now) }
     {
         look(&self.written, name)
     }
@@ -65,17 +69,31 @@ impl MemoryOuter {
 }
 
 impl Outer for MemoryOuter {
-    ghost held = { λ outer. Some (files_of (named outer.files.items)) };
+    ghost held = { λ outer. Some (held_files outer) };
 
-    ghost written = { λ outer. Some (stored outer.written) };
+    ghost written = { λ outer. Some (written_files outer) };
 
-    ghost said = { λ outer. Some outer.said.items };
+    ghost said = { λ outer. Some (said_bytes outer) };
 
-    ghost read_faults = { λ outer. outer.read_faults };
+    ghost read_faults = { failed_reads };
 
-    ghost write_faults = { λ outer. outer.write_faults };
+    ghost write_faults = { failed_writes };
 
-    fn take(&mut self, name: &str, limit: u64) -> Result<Vec<u8>, TakeFault> {
+    /// It answers `Failed` exactly where the call is one that fails or no such file is held.
+    fn take(&mut self, name: &str, limit: u64) -> Result<Vec<u8>, TakeFault>
+        ensures taken { Taken (Some (held_files self.old)) name.now limit
+            (result_map_both (λ v. v.items) (λ e. e) result) }
+        ensures within { IfOk result (λ v. length v.items ≤ limit) }
+        ensures failed { (result ≡ Err TakeFault.Failed)
+            ↔ (IsTrue (fails_next self.old) ⊎ (held_files self.old name.now ≡ None)) }
+        ensures cause { Counts (failed_reads self.old) (failed_reads self.new) (IsErrOf result TakeFault.Failed) }
+        ensures counted { MadeOneCall self.old self.new }
+
+        ensures write_faults { failed_writes self.new ≡ failed_writes self.old }
+        ensures held { held_files self.new ≡ held_files self.old }
+        ensures written { written_files self.new ≡ written_files self.old }
+        ensures said { said_bytes self.new ≡ said_bytes self.old }
+    {
         if fails(&mut self.calls, &self.failing) {
             rise(&mut self.read_faults);
             return Err(TakeFault::Failed);
@@ -89,7 +107,20 @@ impl Outer for MemoryOuter {
         }
     }
 
-    fn start(&mut self, name: &str) -> Result<(), Failed> {
+    /// Where it fails, nothing is written.
+    fn start(&mut self, name: &str) -> Result<(), Failed>
+        ensures due { IsTrue (fails_next self.old) → IsErr result }
+        ensures ok { OnOk result
+            (ChangesFile (Some (written_files self.old)) (Some (written_files self.new)) name.now Started) }
+        ensures nothing { OnErr result
+            ((any : List ℕ) → written_files self.new any ≡ written_files self.old any) }
+        ensures cause { Counts (failed_writes self.old) (failed_writes self.new) (IsErr result) }
+        ensures counted { MadeOneCall self.old self.new }
+
+        ensures read_faults { failed_reads self.new ≡ failed_reads self.old }
+        ensures held { held_files self.new ≡ held_files self.old }
+        ensures said { said_bytes self.new ≡ said_bytes self.old }
+    {
         if fails(&mut self.calls, &self.failing) {
             rise(&mut self.write_faults);
             return Err(Failed);
@@ -103,7 +134,22 @@ impl Outer for MemoryOuter {
         }
     }
 
-    fn add(&mut self, name: &str, bytes: &[u8]) -> Result<(), Failed> {
+    /// Where it fails, nothing is written.
+    fn add(&mut self, name: &str, bytes: &[u8]) -> Result<(), Failed>
+        ensures due { IsTrue (fails_next self.old) → IsErr result }
+        ensures ok { OnOk result
+            (ChangesFile (Some (written_files self.old)) (Some (written_files self.new)) name.now (Appended bytes.now)) }
+        ensures err { OnErr result
+            (ChangesFile (Some (written_files self.old)) (Some (written_files self.new)) name.now (AppendedPart bytes.now)) }
+        ensures nothing { OnErr result
+            ((any : List ℕ) → written_files self.new any ≡ written_files self.old any) }
+        ensures cause { Counts (failed_writes self.old) (failed_writes self.new) (IsErr result) }
+        ensures counted { MadeOneCall self.old self.new }
+
+        ensures read_faults { failed_reads self.new ≡ failed_reads self.old }
+        ensures held { held_files self.new ≡ held_files self.old }
+        ensures said { said_bytes self.new ≡ said_bytes self.old }
+    {
         if fails(&mut self.calls, &self.failing) {
             rise(&mut self.write_faults);
             return Err(Failed);
@@ -117,7 +163,18 @@ impl Outer for MemoryOuter {
         }
     }
 
-    fn say(&mut self, bytes: &[u8]) -> Result<(), Failed> {
+    /// Where it fails, nothing is said.
+    fn say(&mut self, bytes: &[u8]) -> Result<(), Failed>
+        ensures due { IsTrue (fails_next self.old) → IsErr result }
+        ensures ok { OnOk result (said_bytes self.new ≡ said_bytes self.old ++ bytes.now) }
+        ensures nothing { OnErr result (said_bytes self.new ≡ said_bytes self.old) }
+        ensures cause { Counts (failed_writes self.old) (failed_writes self.new) (IsErr result) }
+        ensures counted { MadeOneCall self.old self.new }
+
+        ensures read_faults { failed_reads self.new ≡ failed_reads self.old }
+        ensures held { held_files self.new ≡ held_files self.old }
+        ensures written { written_files self.new ≡ written_files self.old }
+    {
         if fails(&mut self.calls, &self.failing) {
             rise(&mut self.write_faults);
             return Err(Failed);

@@ -24,6 +24,9 @@ pub struct RealOuter<R: Runtime + AllocGlobal> {
 impl<R: Runtime + AllocGlobal> RealOuter<R> {
     /// The outside as this runtime reaches it.
     pub fn new(rt: R) -> RealOuter<R>
+        ensures held { ⟦<RealOuter<R> as Outer>⟧.held result ≡ None }
+        ensures written { ⟦<RealOuter<R> as Outer>⟧.written result ≡ None }
+        ensures said { ⟦<RealOuter<R> as Outer>⟧.said result ≡ None }
         ensures read_faults { ⟦<RealOuter<R> as Outer>⟧.read_faults result ≡ 0 }
         ensures write_faults { ⟦<RealOuter<R> as Outer>⟧.write_faults result ≡ 0 }
     {
@@ -97,12 +100,15 @@ fn read_file<R: Runtime + AllocGlobal>(rt: &R, name: &str, limit: u64) -> Result
         Ok(file) => file,
         Err(_) => return Err(TakeFault::Failed),
     };
-    let length = match file.metadata() {
-        Ok(metadata) => metadata.len(),
+    let about = match file.metadata() {
+        Ok(about) => about,
         Err(_) => return Err(TakeFault::Failed),
     };
-    if length > limit {
-        return Err(TakeFault::TooLong(length));
+    if about.is_dir() {
+        return Err(TakeFault::Failed);
+    }
+    if about.len() > limit {
+        return Err(TakeFault::TooLong(about.len()));
     }
     read_whole(rt.alloc(), &mut file, limit)
 }
