@@ -29,4 +29,4 @@ Becomes text old new = new ≡ Some text
 
 -- the file is as it was, or the first bytes of this text, maybe none
 abbrev pub BecomesPart : List ℕ → Option (List ℕ) → Option (List ℕ) → Type 0
-BecomesPart text old new = (new ≡ old) ⊎ ((n : ℕ) × (new ≡ Some (take n text)))
+BecomesPart text old new = (new ≡ old) ⊎ ((n : ℕ) × (unwrap_or new [] ≡ take n text))

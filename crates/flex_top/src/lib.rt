@@ -1,8 +1,10 @@
 //! The commands but `run`: the words, the image, a run on one thread, the trace text and its file.
 #![tactic(auto)]
 
+mod pieces;
 mod text;
 mod words;
 
+pub use pieces::Pieces;
 pub use text::{SHOWN_CSRS, csr_line, digest_line, event_line, hart_line, header_line, register_line, stop_line};
 pub use words::{Command, read_words};
