@@ -1,5 +1,5 @@
 pub mod Words
-pub mod TraceText
-pub mod HartText
+pub mod EventText
+pub mod TailText
 pub mod Trace
 pub mod Written

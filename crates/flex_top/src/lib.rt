@@ -2,6 +2,7 @@
 #![tactic(auto)]
 
 mod pieces;
+mod trace_file;
 mod text;
 mod words;
 

@@ -3,11 +3,13 @@ use Rattle.std.specs.Prelude.{ℕ, ◌+◌, ◌==◌, if◌then◌else◌, List,
 use Rattle.std.specs.List.{flat_map, range_with_len}
 use Rattle.sha2.specs.Sha256.{sha256}
 use Rattle.flex_base.specs.State.{State}
+use Rattle.flex_base.specs.declared.event.Event.{Event}
 use Rattle.flex_base.specs.declared.event.Stop.{Stop}
 use Rattle.flex_base.specs.declared.event.Stop.TheVariants as stop
 use Rattle.flex_base.specs.declared.hart.Mode.{Mode}
 use Rattle.flex_base.specs.declared.hart.Mode.TheVariants as mode
-use Rattle.flex_top.specs.TraceText.{hex, hex_digits}
+use Rattle.flex_base.specs.declared.settings.Settings.{Settings}
+use Rattle.flex_top.specs.EventText.{hex, hex_digits, header_text, event_text}
 
 abbrev pub reason_text : Stop → List ℕ
 reason_text stop.Budget = codes "budget"
@@ -70,3 +72,10 @@ harts_text harts state = flat_map (λ h. hart_text h (state h)) (range_with_len 
 -- the lines after the events
 unfoldable pub closing_text : Option Stop → ℕ → (ℕ → State) → List ℕ → List ℕ
 closing_text stop harts state ram = stop_text stop ++ harts_text harts state ++ ram_text ram ++ codes "done\n"
+
+unfoldable pub events_text : List Event → List ℕ
+events_text events = flat_map event_text events
+
+-- the whole text: the header, the events, and what stands after them
+unfoldable pub whole_text : Settings → List Event → Option Stop → ℕ → (ℕ → State) → List ℕ → List ℕ
+whole_text settings events stop harts state ram = header_text settings ++ events_text events ++ closing_text stop harts state ram
