@@ -1,7 +1,7 @@
 -- How a file grows, piece by piece.
-use Rattle.std.proofs.Common.{◌≡◌, ◌≢◌, ℕ, ◌+◌, ◌<◌, get_or, Result, Ok, Err, OnErr, List, [], ◌∷◌, ◌++◌, take, drop, length, Option, None, Some, unwrap_or, inl, inr, refl, subst, sym, ap, ◌∙◌, ◌⊎◌, append_assoc, arith}
+use Rattle.std.proofs.Common.{◌≡◌, ◌≢◌, ℕ, ◌+◌, ◌<◌, ◌≤◌, get_or, Result, Ok, Err, OnErr, List, [], ◌∷◌, ◌++◌, take, drop, length, Option, None, Some, unwrap_or, inl, inr, refl, subst, sym, ap, ◌∙◌, ◌⊎◌, append_assoc, arith}
 use Rattle.std.proofs.Math.Seq.{take-append_seam}
-use Rattle.std.proofs.lemmas.List.{append-nil, take-append-drop, take_more}
+use Rattle.std.proofs.lemmas.List.{append-nil, take-append-drop, take_all, take_more}
 use Rattle.std.specs.List.{flat_map}
 use Rattle.std.proofs.lemmas.Grind.{flat_map-append}
 use Rattle.flex_base.specs.Files.{Files, ChangesFile, Appended, AppendedPart, Started, StartedPart}
@@ -131,6 +131,10 @@ part_within f xs i d a b c name held held' line within same p q =
     let split : flat_map f (take (i + 1) xs) ++ flat_map f (drop (i + 1) xs) ≡ flat_map f xs = sym (flat_map-append f (take (i + 1) xs) (drop (i + 1) xs)) ∙ ap (flat_map f) (take-append-drop (i + 1) xs) in
     let so_far : PassesPart a c name held (flat_map f (take (i + 1) xs)) = rw (lines_more f xs i d within) (part_on a b c name held held' _ _ p (rw (← same) q)) in
     rw (← split) (part_more a c name held _ _ so_far)
+
+-- all lines of a list
+pub passes_all : {X : Type 0} (f : X → List ℕ) (xs : List X) (i : ℕ) (a b : Option Files) (name held held' : List ℕ) → length xs ≤ i → Passes a b name held held' (flat_map f (take i xs)) → Passes a b name held held' (flat_map f xs)
+passes_all f xs i a b name held held' whole p = let all : take i xs ≡ xs = take_all i xs whole in rw all at p
 
 pub on_err : {T E P : Type 0} (r : Result T E) → P → OnErr r P
 on_err (Ok x) p = tt

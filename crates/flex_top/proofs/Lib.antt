@@ -1,3 +1,4 @@
 pub mod WordsLemmas
 pub mod HexDigits
 pub mod Growth
+pub mod ShownLists
