@@ -8,4 +8,5 @@ mod words;
 
 pub use pieces::Pieces;
 pub use text::{SHOWN_CSRS, csr_line, digest_line, event_line, hart_line, header_line, register_line, stop_line};
+pub use trace_file::{Trace, write_trace};
 pub use words::{Command, read_words};
