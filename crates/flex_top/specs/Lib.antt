@@ -3,3 +3,4 @@ pub mod EventText
 pub mod TailText
 pub mod Trace
 pub mod Written
+pub mod Status
