@@ -8,12 +8,14 @@ use Rattle.flex_base.specs.declared.operation.AluOp.TheVariants as alu
 -- Fields.
 abbrev pub rd_of : ℕ → ℕ
 rd_of word = field 7 5 word
+
 abbrev pub rs1_of : ℕ → ℕ
 rs1_of word = field 15 5 word
 
 -- Immediates: I is bits 31:20; J is bits 31, 19:12, 20, 30:21 and a zero bit.
 abbrev pub imm_i : ℕ → ℕ
 imm_i word = sign_extend 12 (field 20 12 word)
+
 abbrev pub imm_j : ℕ → ℕ
 imm_j word = sign_extend 21 (field 31 1 word * 2 ^ 20 + field 12 8 word * 2 ^ 12 + field 20 1 word * 2 ^ 11 + field 21 10 word * 2)
 
@@ -29,6 +31,7 @@ row mask bits make = record { mask = mask; bits = bits; make = make }
 -- Forms.
 abbrev pub jal : ℕ → Op
 jal word = op.Jal (rd_of word) (imm_j word)
+
 abbrev pub addi : ℕ → Op
 addi word = op.AluImm alu.Add (rd_of word) (rs1_of word) (imm_i word)
 
