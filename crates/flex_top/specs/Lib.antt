@@ -1,8 +1,9 @@
 pub mod Words
-pub mod TraceText
-pub mod HartText
+pub mod EventText
+pub mod TailText
 pub mod Trace
 pub mod Written
 pub mod Memory
 pub mod Splitting
 pub mod Play
+pub mod Status

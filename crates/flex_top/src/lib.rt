@@ -2,12 +2,10 @@
 #![tactic(auto)]
 
 mod memory;
+mod pieces;
 mod player;
 mod split_run;
+mod status;
 mod text;
+mod trace_file;
 mod words;
-
-pub use text::{
-    SHOWN_CSRS, csr_line, digest_line, event_line, hart_line, header_line, register_line, stop_line,
-};
-pub use words::{Command, read_words};

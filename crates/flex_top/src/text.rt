@@ -4,7 +4,7 @@ mod access;
 mod event;
 mod hart;
 mod header;
-mod put;
+pub(crate) mod put;
 mod tail;
 
 pub use event::event_line;

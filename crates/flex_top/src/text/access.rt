@@ -1,7 +1,7 @@
 // The part of a line that says an access and its reply.
 
 ghost use Rattle.std.specs.Prelude.{◌≡◌, ◌+◌, ◌≤◌, ◌++◌, length};
-ghost use Rattle.flex_top.specs.TraceText.{amo_text, fetch_text, pte_text, moved_text, told_text, access_text};
+ghost use Rattle.flex_top.specs.EventText.{amo_text, fetch_text, pte_text, moved_text, told_text, access_text};
 
 use crate::text::put::{put, put_digits, put_flag, put_hex, put_number, put_span};
 use flex_base::{Access, AmoOp, Line, Reply};

@@ -1,12 +1,12 @@
 ghost use Rattle.std.specs.Prelude.{◌≡◌, ◌+◌, ◌≤◌, ◌++◌, length};
-ghost use Rattle.flex_top.specs.TraceText.{engine_text, class_text, outcome_text, end_text, what_text, event_text};
+ghost use Rattle.flex_top.specs.EventText.{engine_text, class_text, outcome_text, end_text, what_text, event_text};
 
 use crate::text::access::put_access;
 use crate::text::put::{put, put_hex, put_number, put_small};
 use flex_base::{Class, EndPart, Engine, Event, Line, What};
 
 /// Makes this the line of an event. It has at most 111 bytes.
-#[tactic(auto, unfolding(crate::specs::TraceText::event_text))]
+#[tactic(auto, unfolding(crate::specs::EventText::event_text))]
 pub fn event_line(event: &Event, into: &mut Line)
     ensures { into.new ≡ event_text event.now }
 {

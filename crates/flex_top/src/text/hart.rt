@@ -1,7 +1,7 @@
 ghost use Rattle.std.specs.Prelude.{◌≡◌, ◌+◌, ◌≤◌, ◌<◌, ◌++◌, length};
 ghost use Rattle.flex_base.specs.State.{State};
 ghost use Rattle.hart_story.specs.StandsFor.{StandsFor};
-ghost use Rattle.flex_top.specs.HartText.{state_text, register_text, csr_text, csr_value, of_hart};
+ghost use Rattle.flex_top.specs.TailText.{state_text, register_text, csr_text, csr_value, of_hart};
 
 use crate::text::put::{put, put_digits, put_hex, put_number, put_small};
 use flex_base::{HartId, Line};
@@ -20,7 +20,7 @@ pub const SHOWN_CSRS: [u16; 20] = [
 ];
 
 /// Makes this the first line of a hart: its ends, its mode and its pc.
-#[tactic(auto, unfolding(crate::specs::HartText::state_text))]
+#[tactic(auto, unfolding(crate::specs::TailText::state_text))]
 pub fn hart_line(id: HartId, hart: &Hart, into: &mut Line)
     ensures { (a : State) → StandsFor hart.now a → into.new ≡ state_text id.0 a }
 {
@@ -34,7 +34,7 @@ pub fn hart_line(id: HartId, hart: &Hart, into: &mut Line)
 }
 
 /// Makes this the line of a register, or empty where the register is 0.
-#[tactic(auto, unfolding(crate::specs::HartText::register_text))]
+#[tactic(auto, unfolding(crate::specs::TailText::register_text))]
 pub fn register_line(id: HartId, hart: &Hart, register: u8, into: &mut Line)
     requires { register < 32 }
     ensures { (a : State) → StandsFor hart.now a → into.new ≡ register_text id.0 a register }
@@ -52,7 +52,7 @@ pub fn register_line(id: HartId, hart: &Hart, register: u8, into: &mut Line)
 }
 
 /// Makes this the line of a CSR, or empty where the CSR is 0.
-#[tactic(auto, unfolding(crate::specs::HartText::csr_text))]
+#[tactic(auto, unfolding(crate::specs::TailText::csr_text))]
 pub fn csr_line(id: HartId, hart: &Hart, number: u16, into: &mut Line)
     ensures { (a : State) → StandsFor hart.now a → into.new ≡ csr_text id.0 a number }
 {

@@ -1,5 +1,5 @@
 ghost use Rattle.std.specs.Prelude.{◌≡◌};
-ghost use Rattle.flex_top.specs.TraceText.{header_text};
+ghost use Rattle.flex_top.specs.EventText.{header_text};
 
 use crate::text::put::{put, put_number, put_small};
 use flex_base::{Line, Settings};
@@ -7,7 +7,7 @@ use flex_base::{Line, Settings};
 const MEBIBYTE: u64 = 1_048_576;
 
 /// Makes this the trace's first line: the settings.
-#[tactic(auto, unfolding(crate::specs::TraceText::header_text))]
+#[tactic(auto, unfolding(crate::specs::EventText::header_text))]
 pub fn header_line(settings: &Settings, into: &mut Line)
     ensures { into.new ≡ header_text settings.now }
 {

@@ -1,7 +1,7 @@
 // Parts of a line, each put at its end.
 
 ghost use Rattle.std.specs.Prelude.{◌≡◌, ◌+◌, ◌≤◌, ◌<◌, ◌++◌, [], ◌∷◌, length, decimal};
-ghost use Rattle.flex_top.specs.TraceText.{hex_digit, hex_digits, hex, flag, span_text};
+ghost use Rattle.flex_top.specs.EventText.{hex_digit, hex_digits, hex, flag, span_text};
 
 use flex_base::Line;
 use itoa::Buffer;

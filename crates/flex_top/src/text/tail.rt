@@ -1,14 +1,14 @@
 ghost use Rattle.std.specs.Prelude.{◌≡◌, ◌+◌, ◌≤◌, ◌*◌, ◌++◌, length, Some};
 ghost use Rattle.std.specs.List.{flat_map};
-ghost use Rattle.flex_top.specs.TraceText.{hex_digits};
-ghost use Rattle.flex_top.specs.HartText.{reason_text, stop_text, ram_text};
+ghost use Rattle.flex_top.specs.EventText.{hex_digits};
+ghost use Rattle.flex_top.specs.TailText.{reason_text, stop_text, ram_text};
 
 use crate::text::put::{put, put_digits, put_number};
 use flex_base::{Line, Stop};
 use sha2::{Digest, Sha256};
 
 /// Makes this the line that says why the run ended.
-#[tactic(auto, unfolding(crate::specs::HartText::stop_text))]
+#[tactic(auto, unfolding(crate::specs::TailText::stop_text))]
 pub fn stop_line(stop: Stop, into: &mut Line)
     ensures { into.new ≡ stop_text (Some stop) }
 {
@@ -34,7 +34,7 @@ fn put_reason(line: &mut Line, stop: Stop)
 }
 
 /// Makes this the line of the digest of all bytes of RAM.
-#[tactic(auto, unfolding(crate::specs::HartText::ram_text))]
+#[tactic(auto, unfolding(crate::specs::TailText::ram_text))]
 pub fn digest_line(ram: &[u8], into: &mut Line)
     ensures { into.new ≡ ram_text ram.now }
 {
