@@ -3,3 +3,4 @@ pub mod Stories
 pub mod Machines
 pub mod Orders
 pub mod Turns
+pub mod Quiet

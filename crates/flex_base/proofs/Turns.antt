@@ -113,3 +113,11 @@ turns_ended setup u (h ∷ harts) ended = ap (λ b. if b then [] else turn_of se
 pub turns_busy : (setup : Setup) (u : Machine) (h : ℕ) (harts : List ℕ) → has_ended setup u ≡ false
     → turns setup u (h ∷ harts) ≡ turn_of setup u h ++ turns setup (reach_from setup u (turn_of setup u h)) harts
 turns_busy setup u h harts busy = ap (λ b. if b then [] else turn_of setup u h ++ turns setup (reach_from setup u (turn_of setup u h)) harts) busy
+
+stop_by : (b c : Bool) → (is_some (if b then Some stop.Budget else None) && c) ≡ true → (if b then Some stop.Budget else None) ≡ Some stop.Budget
+stop_by true c e = refl
+stop_by false c e = absurd cc
+
+-- a run that has ended has spent all budgets
+pub stop_ended : (setup : Setup) (u : Machine) → has_ended setup u ≡ true → stop_of setup u ≡ Some stop.Budget
+stop_ended setup u ended = stop_by (list_all (is_spent u.devices) (hart_numbers setup)) (list_all (λ h. is_over (want_of setup u h)) (hart_numbers setup)) ended

@@ -45,6 +45,10 @@ abbrev pub byte_of : What → Option ℕ
 byte_of (what.Acc (acc.DevWrite address width value) reply) = if address == 0x10000000 then Some value else None
 byte_of other = None
 
+-- the bytes that these events transmit
+unfoldable pub sent : List Made → List ℕ
+sent made = filter_map (λ (m : Made). byte_of m.what) made
+
 -- the bytes written to the console
-unfoldable pub console : List Event → List ℕ
-console journal = filter_map (λ (e : Event). byte_of e.what) journal
+abbrev pub console : List Event → List ℕ
+console journal = sent (strip journal)
