@@ -7,3 +7,5 @@ pub mod Memory
 pub mod Splitting
 pub mod Play
 pub mod Status
+pub mod Answer
+pub mod Ready

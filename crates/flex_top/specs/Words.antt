@@ -1,5 +1,5 @@
 -- The words of the command line, as a grammar. A part that doesn't read makes the whole unreadable.
-use Rattle.std.specs.Prelude.{ℕ, ◌+◌, ◌-◌, ◌*◌, Bool, true, false, not, ◌&&◌, ◌==◌, if◌then◌else◌, List, [], ◌∷◌, length, drop, fold, codes, nat_eq, nat_le, bytes_eq, Option, None, Some, option_map, option_and_then}
+use Rattle.std.specs.Prelude.{ℕ, ◌+◌, ◌-◌, ◌*◌, ◌≤◌, Bool, true, false, not, ◌&&◌, ◌==◌, if◌then◌else◌, List, [], ◌∷◌, length, drop, fold, codes, nat_eq, nat_le, bytes_eq, Option, None, Some, option_map, option_and_then}
 use Rattle.std.specs.List.{list_all, starts_with}
 use Rattle.flex_base.specs.Limits.{is_within, mebibyte}
 use Rattle.flex_top.specs.declared.words.Command.{Command}
@@ -64,3 +64,8 @@ reading other = None
 -- a command of the code, as its reading
 abbrev pub shown : Command → Reading
 shown command = record { image = command.image.now; trace = command.trace.now; ram = command.ram; budget = command.budget }
+
+-- RAM and budget are within their limits
+pub record IsLimited (command : Command) : Type 0 where
+  pub ram : command.ram ≤ 268435456
+  pub budget : command.budget ≤ 262144

@@ -1,11 +1,21 @@
 //! The commands but `run`: the words, the image, a run on one thread, the trace text and its file.
+//!
+//! `flex_top` does what the words ask for, and tells by its status what came of it. `solo` plays
+//! one hart over a raw image and writes the trace of the run.
 #![tactic(auto)]
 
 mod memory;
 mod pieces;
 mod player;
+mod prepared;
+mod raw;
+mod solo;
 mod split_run;
 mod status;
 mod text;
+mod top;
 mod trace_file;
 mod words;
+
+pub use status::{ImageFault, Status, status_code, status_text};
+pub use top::flex_top;

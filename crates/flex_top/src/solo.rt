@@ -1,16 +1,15 @@
-ghost use Rattle.std.specs.Prelude.{◌≡◌, ◌≢◌, ℕ, ◌≤◌, ◌<◌, ◌^◌, length, IfOk};
+ghost use Rattle.std.specs.Prelude.{◌≡◌, ◌≢◌, ◌<◌, ◌^◌, []};
+ghost use Rattle.flex_base.specs.Journal.{console};
 ghost use Rattle.flex_base.specs.Files.{Counts, ChangesFile};
-ghost use Rattle.flex_top.specs.Answer.{setup_of, answer_of_file, IsAnswer, trace_of};
+ghost use Rattle.flex_top.specs.Answer.{setup_of, answer_of_file, IsAnswer, IsWhole, journal_of, trace_of};
 ghost use Rattle.flex_top.specs.Written.{Becomes, BecomesPart};
 
-use crate::pieces::Pieces;
-use crate::player::Player;
-use crate::raw::{is_elf, load};
+use crate::prepared::prepare;
+use crate::raw::is_elf;
 use crate::status::{ImageFault, Status};
-use crate::trace_file::{Trace, write_trace};
 use crate::words::Command;
-use flex_base::{Layout, Outer, RAM_BASE, Settings, Stop};
-use std::alloc::{AllocError, Global};
+use flex_base::Outer;
+use std::alloc::Global;
 
 // Runs the image on one hart, and writes the trace.
 pub(crate) fn solo<O: Outer>(alloc: Global, command: &Command, file: &[u8], outer: &mut O) -> Status
@@ -20,6 +19,8 @@ pub(crate) fn solo<O: Outer>(alloc: Global, command: &Command, file: &[u8], oute
     ensures not_read { result ≢ Status.ReadFault }
     ensures trace { result ≡ Status.Ended → ChangesFile (O.written outer.old) (O.written outer.new) command.now.trace.now (Becomes (trace_of (setup_of file.now command.now.ram command.now.budget))) }
     ensures cut { result ≡ Status.WriteFault → ChangesFile (O.written outer.old) (O.written outer.new) command.now.trace.now (BecomesPart (trace_of (setup_of file.now command.now.ram command.now.budget))) }
+    ensures whole { result ≡ Status.Ended → IsWhole (setup_of file.now command.now.ram command.now.budget) }
+    ensures quiet { result ≡ Status.Ended → console (journal_of (setup_of file.now command.now.ram command.now.budget)) ≡ [] }
     ensures nothing { result ≢ Status.Ended → result ≢ Status.WriteFault → O.written outer.new ≡ O.written outer.old }
     ensures cause { Counts (O.write_faults outer.old) (O.write_faults outer.new) (result ≡ Status.WriteFault) }
 
@@ -34,7 +35,7 @@ pub(crate) fn solo<O: Outer>(alloc: Global, command: &Command, file: &[u8], oute
         return Status::ImageRefused(ImageFault::SegmentOutsideRam(0));
     }
     match prepare(alloc, file, command.ram, command.budget) {
-        Ok(machine) => run(machine, command.trace, outer),
-        Err(AllocError) => Status::OutOfMemory,
+        Ok(prepared) => prepared.run(command.trace, outer),
+        Err(_) => Status::OutOfMemory,
     }
 }

@@ -1,6 +1,6 @@
-ghost use Rattle.std.specs.Prelude.{◌≡◌, ◌≤◌, ◌&&◌, map, codes, length, bytes_eq, Some, None, option_map, if◌then◌else◌, string_bytes};
+ghost use Rattle.std.specs.Prelude.{◌≡◌, ◌≤◌, ◌&&◌, map, codes, length, bytes_eq, Some, None, option_map, IfSome, if◌then◌else◌, string_bytes};
 ghost use Rattle.std.specs.List.{list_all};
-ghost use Rattle.flex_top.specs.Words.{reading, options, both, shown, is_name, is_digit, number_of, number, value_of, number_option, is_solo, with_size};
+ghost use Rattle.flex_top.specs.Words.{reading, options, both, shown, is_name, is_digit, number_of, number, value_of, number_option, is_solo, with_size, IsLimited};
 
 /// What `solo` is asked to do.
 #[derive(Clone, Copy, Debug)]
@@ -27,7 +27,8 @@ const MEBIBYTE: u64 = 1_048_576;
 /// The command that these words are: `solo IMAGE TRACE`, and then nothing or
 /// `--ram=MIB --budget=ENDS`. Other words have no reading.
 pub fn read_words(words: &[String]) -> Option<Command<'_>>
-    ensures { option_map shown result ≡ reading (map string_bytes words.now) }
+    ensures reading { option_map shown result ≡ reading (map string_bytes words.now) }
+    ensures limits { IfSome result IsLimited }
 {
     match words {
         [command, image, trace, rest @ ..] => {
@@ -43,7 +44,8 @@ pub fn read_words(words: &[String]) -> Option<Command<'_>>
 }
 
 fn with_options<'a>(image: &'a str, trace: &'a str, rest: &[String]) -> Option<Command<'a>>
-    ensures { option_map shown result ≡ option_map (with_size image.now trace.now) (options (map string_bytes rest.now)) }
+    ensures reading { option_map shown result ≡ option_map (with_size image.now trace.now) (options (map string_bytes rest.now)) }
+    ensures limits { IfSome result IsLimited }
 {
     match options(rest) {
         Some(size) => Some(Command {
@@ -72,7 +74,8 @@ fn is_name(word: &str) -> bool
 }
 
 fn options(rest: &[String]) -> Option<Size>
-    ensures { result ≡ options (map string_bytes rest.now) }
+    ensures size { result ≡ options (map string_bytes rest.now) }
+    ensures limits { IfSome result (λ size. (size.mebibytes ≤ 256) × (size.budget ≤ 262144)) }
 {
     match rest {
         [] => Some(Size {
@@ -88,7 +91,8 @@ fn options(rest: &[String]) -> Option<Size>
 }
 
 fn both(mebibytes: Option<u64>, budget: Option<u64>) -> Option<Size>
-    ensures { result ≡ both mebibytes budget }
+    ensures size { result ≡ both mebibytes budget }
+    ensures values { IfSome result (λ size. (mebibytes ≡ Some size.mebibytes) × (budget ≡ Some size.budget)) }
 {
     Some(Size {
         mebibytes: mebibytes?,
@@ -98,7 +102,8 @@ fn both(mebibytes: Option<u64>, budget: Option<u64>) -> Option<Size>
 
 // The value of an option `NAME=VALUE` that is a number from 1 up to `most`.
 fn number_option(name: &[u8], most: u64, word: &[u8]) -> Option<u64>
-    ensures { result ≡ number_option name.now most word.now }
+    ensures value { result ≡ number_option name.now most word.now }
+    ensures limit { IfSome result (λ n. n ≤ most) }
 {
     match value_of(name, word) {
         Some(value) => number(most, value),
@@ -117,7 +122,8 @@ fn value_of<'a>(name: &[u8], word: &'a [u8]) -> Option<&'a [u8]>
 }
 
 fn number(most: u64, word: &[u8]) -> Option<u64>
-    ensures { result ≡ number most word.now }
+    ensures value { result ≡ number most word.now }
+    ensures limit { IfSome result (λ n. n ≤ most) }
 {
     if word.is_empty() || word.len() > 10 {
         return None;
