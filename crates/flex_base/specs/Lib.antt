@@ -11,6 +11,7 @@ pub mod Arithmetic
 pub mod State
 pub mod Setup
 pub mod Story
+pub mod Forms
 pub mod FlatMemory
 pub mod Unsplit
 pub mod Rounds

@@ -1,13 +1,11 @@
-// A library with one function.
+//! The commands but `run`: the words, the image, a run on one thread, the trace text and its file.
 #![tactic(auto)]
 
-ghost use Rattle.std.specs.Prelude.{◌≡◌};
-ghost use Rattle.flex_top.specs.Echo.{echo_of};
-
-// The `ensures` clause is the contract: what `echo` returns is `echo_of` of its argument, a definition
-// in `specs/Echo.antt`, which a caller's clause can cite too.
-pub fn echo(x: usize) -> usize
-    ensures { result ≡ echo_of x }
-{
-    x
-}
+mod memory;
+mod pieces;
+mod player;
+mod split_run;
+mod status;
+mod text;
+mod trace_file;
+mod words;

@@ -1,0 +1,5 @@
+pub mod Places
+pub mod Stories
+pub mod Machines
+pub mod Orders
+pub mod Turns

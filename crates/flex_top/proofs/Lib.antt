@@ -1,0 +1,7 @@
+pub mod WordsLemmas
+pub mod HexDigits
+pub mod Playing
+pub mod Rounds
+pub mod Growth
+pub mod ShownLists
+pub mod WholeText
