@@ -48,15 +48,24 @@ impl Outer for SteadyOuter {
         }
     }
 
-    fn start(&mut self, _name: &str) -> Result<(), Failed> {
+    fn start(&mut self, _name: &str) -> Result<(), Failed>
+        ensures ok { result ≡ Ok tt }
+        ensures same { self.new ≡ self.old }
+    {
         Ok(())
     }
 
-    fn add(&mut self, _name: &str, _bytes: &[u8]) -> Result<(), Failed> {
+    fn add(&mut self, _name: &str, _bytes: &[u8]) -> Result<(), Failed>
+        ensures ok { result ≡ Ok tt }
+        ensures same { self.new ≡ self.old }
+    {
         Ok(())
     }
 
-    fn say(&mut self, _bytes: &[u8]) -> Result<(), Failed> {
+    fn say(&mut self, _bytes: &[u8]) -> Result<(), Failed>
+        ensures ok { result ≡ Ok tt }
+        ensures same { self.new ≡ self.old }
+    {
         Ok(())
     }
 }
