@@ -12,4 +12,3 @@ hex_digits-more zero n some = absurd (omega arith)
 hex_digits-more (suc k) n some =
     let less : suc k - 1 ≡ k = omega arith in
     rw less refl
-

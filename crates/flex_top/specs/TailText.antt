@@ -83,4 +83,3 @@ events_text events = flat_map event_text events
 -- the whole text: the header, the events, and what stands after them
 unfoldable pub whole_text : Settings → List Event → Option Stop → ℕ → (ℕ → State) → List ℕ → List ℕ
 whole_text settings events stop harts state ram = header_text settings ++ events_text events ++ closing_text stop harts state ram
-

@@ -146,7 +146,6 @@ fn digits_value(word: &[u8]) -> Option<u64>
 #[cfg(test)]
 mod tests {
     use super::*;
-
     use std::alloc::{AllocError, Global};
 
     // The words of a line, parted by one space each.

@@ -8,7 +8,9 @@ use flex_base::{HartId, Line};
 use hart_story::Hart;
 
 const MSTATUS: u16 = 0x300;
+
 const MCYCLE: u16 = 0xb00;
+
 const MINSTRET: u16 = 0xb02;
 
 /// The numbers of the CSRs that a trace shows, in its order.
