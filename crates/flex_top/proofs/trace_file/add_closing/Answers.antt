@@ -1,4 +1,4 @@
-use Rattle.std.proofs.Common.{◌≡◌, ℕ, ◌∙◌, length, Some}
+use Rattle.std.proofs.Common.{ℕ, ◌∙◌, length, Some}
 use Rattle.flex_base.specs.State.{State}
 use Rattle.flex_top.specs.TailText.{closing_text}
 use Rattle.flex_top.specs.Written.{PassesPart, AllStand}

@@ -1,8 +1,8 @@
-use Rattle.std.proofs.Common.{◌≡◌, ◌++◌, ◌∙◌, sym}
+use Rattle.std.proofs.Common.{◌++◌, ◌∙◌}
 use Rattle.flex_base.specs.State.{State}
 use Rattle.hart_story.specs.StandsFor.{StandsFor}
 use Rattle.flex_top.specs.TailText.{hart_text, state_text, registers_text, csrs_text}
-use Rattle.flex_top.specs.Written.{Passes, PassesPart}
+use Rattle.flex_top.specs.Written.{PassesPart}
 use Rattle.flex_top.proofs.Growth.{on_err, passes_on, part_on, part_more}
 use Rattle.flex_top.proofs.trace_file.add_hart.Goals as goal
 

@@ -1,4 +1,4 @@
-use Rattle.std.proofs.Common.{◌≡◌, ℕ, ◌+◌, ◌-◌, ◌<◌, length, get_or, sym, ap, ◌∙◌, rules, arith}
+use Rattle.std.proofs.Common.{◌≡◌, ◌+◌, ◌-◌, ◌<◌, length, get_or, sym, ap, ◌∙◌, rules, arith}
 use Rattle.flex_top.specs.TailText.{register_text, registers_text, register_numbers}
 use Rattle.flex_base.specs.State.{State}
 use Rattle.hart_story.specs.StandsFor.{StandsFor}

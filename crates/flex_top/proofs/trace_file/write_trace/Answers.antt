@@ -1,9 +1,9 @@
-use Rattle.std.proofs.Common.{◌≡◌, ℕ, length, List, [], ◌∷◌, Some, sym, subst}
+use Rattle.std.proofs.Common.{ℕ, length, Some}
 use Rattle.std.proofs.lemmas.List.{append-nil}
 use Rattle.flex_base.specs.Files.{ChangesFile}
 use Rattle.flex_base.specs.State.{State}
 use Rattle.flex_top.specs.TailText.{whole_text}
-use Rattle.flex_top.specs.Written.{Passes, PassesPart, Becomes, BecomesPart, AllStand}
+use Rattle.flex_top.specs.Written.{BecomesPart, AllStand}
 use Rattle.flex_top.proofs.Growth.{on_err, becomes, becomes_part, part_on}
 use Rattle.flex_top.proofs.WholeText.{whole_text-begins}
 use Rattle.flex_top.proofs.trace_file.write_trace.Goals as goal
