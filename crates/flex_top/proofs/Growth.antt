@@ -1,11 +1,11 @@
 -- How a file grows, piece by piece.
-use Rattle.std.proofs.Common.{◌≡◌, ◌≢◌, ℕ, ◌+◌, ◌<◌, ◌≤◌, get_or, Result, Ok, Err, OnErr, List, [], ◌∷◌, ◌++◌, take, drop, length, Option, None, Some, unwrap_or, inl, inr, refl, subst, sym, ap, ◌∙◌, ◌⊎◌, append_assoc, arith}
+use Rattle.std.proofs.Common.{◌≡◌, ℕ, ◌+◌, ◌<◌, ◌≤◌, get_or, Result, Ok, Err, OnErr, List, [], ◌∷◌, ◌++◌, take, drop, length, Option, None, Some, unwrap_or, inl, inr, refl, subst, sym, ap, ◌∙◌, append_assoc}
 use Rattle.std.proofs.Math.Seq.{take-append_seam}
 use Rattle.std.proofs.lemmas.List.{append-nil, take-append-drop, take_all, take_more}
 use Rattle.std.specs.List.{flat_map}
 use Rattle.std.proofs.lemmas.Grind.{flat_map-append}
 use Rattle.flex_base.specs.Files.{Files, ChangesFile, Appended, AppendedPart, Started, StartedPart}
-use Rattle.flex_top.specs.Written.{Gains, Grows, Passes, PassesPart, Becomes, BecomesPart}
+use Rattle.flex_top.specs.Written.{Grows, Passes, PassesPart, Becomes, BecomesPart}
 
 pub grows_none : (a : Option Files) (name : List ℕ) → Grows a a name []
 grows_none None name = refl

@@ -1,5 +1,5 @@
 -- The digits of a number, one more.
-use Rattle.std.proofs.Common.{◌≡◌, ℕ, ◌-◌, ◌/◌, ◌%◌, ◌<◌, zero, suc, List, [], ◌∷◌, ◌++◌, refl, arith}
+use Rattle.std.proofs.Common.{◌≡◌, ℕ, ◌-◌, ◌/◌, ◌%◌, ◌<◌, zero, suc, [], ◌∷◌, ◌++◌, refl, arith}
 use Rattle.flex_top.specs.EventText.{hex_digit, hex_digits}
 
 pub hex_digits-none : (n : ℕ) → hex_digits 0 n ≡ []

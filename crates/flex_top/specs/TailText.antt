@@ -1,5 +1,5 @@
 -- The lines after the events: the stop, each hart's state, and the digest of RAM.
-use Rattle.std.specs.Prelude.{ℕ, ◌+◌, ◌==◌, if◌then◌else◌, List, [], ◌∷◌, ◌++◌, slice_index, codes, decimal, Option, None, Some}
+use Rattle.std.specs.Prelude.{ℕ, ◌==◌, if◌then◌else◌, List, [], ◌∷◌, ◌++◌, slice_index, codes, decimal, Option, None, Some}
 use Rattle.std.specs.List.{flat_map, range_with_len}
 use Rattle.sha2.specs.Sha256.{sha256}
 use Rattle.flex_base.specs.State.{State}
@@ -83,4 +83,3 @@ events_text events = flat_map event_text events
 -- the whole text: the header, the events, and what stands after them
 unfoldable pub whole_text : Settings → List Event → Option Stop → ℕ → (ℕ → State) → List ℕ → List ℕ
 whole_text settings events stop harts state ram = header_text settings ++ events_text events ++ closing_text stop harts state ram
-

@@ -1,5 +1,5 @@
 -- The words of the command line, as a grammar. A part that doesn't read makes the whole unreadable.
-use Rattle.std.specs.Prelude.{ℕ, ◌+◌, ◌-◌, ◌*◌, ◌≤◌, Bool, true, false, not, ◌&&◌, ◌==◌, if◌then◌else◌, List, [], ◌∷◌, length, drop, fold, codes, nat_eq, nat_le, bytes_eq, Option, None, Some, option_map, option_and_then}
+use Rattle.std.specs.Prelude.{ℕ, ◌+◌, ◌-◌, ◌*◌, ◌≤◌, Bool, false, not, ◌&&◌, ◌==◌, if◌then◌else◌, List, [], ◌∷◌, length, drop, fold, codes, nat_eq, bytes_eq, Option, None, Some, option_map, option_and_then}
 use Rattle.std.specs.List.{list_all, starts_with}
 use Rattle.flex_base.specs.Limits.{is_within, mebibyte}
 use Rattle.flex_top.specs.declared.words.Command.{Command}

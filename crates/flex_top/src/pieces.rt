@@ -1,12 +1,12 @@
-use std::marker::Model;
-
 use flex_base::{Failed, Outer};
 use std::alloc::{AllocError, Global};
+use std::marker::Model;
 
 // How many bytes a piece has, but for the last one.
 const PIECE: usize = 65_536;
 
-/// The bytes of a text that wait to be written, less than a piece. The memory is taken at the start.
+/// The bytes of a text that wait to be written, less than a piece. Its memory is taken when it is
+/// made.
 #[derive(Drop)]
 pub struct Pieces {
     held: Vec<u8>,
@@ -45,12 +45,7 @@ impl Pieces {
 
     /// Adds bytes to the text, and writes a piece to the file where one is full. Where that fails,
     /// the file has gained the first of the bytes that waited and the new ones.
-    pub fn add<O: Outer>(
-        &mut self,
-        outer: &mut O,
-        name: &str,
-        bytes: &[u8],
-    ) -> Result<(), Failed>
+    pub fn add<O: Outer>(&mut self, outer: &mut O, name: &str, bytes: &[u8]) -> Result<(), Failed>
         requires { length bytes.now ≤ 65536 }
         ensures ok { OnOk result (Passes (O.written outer.old) (O.written outer.new) name.now self.old self.new bytes.now) }
         ensures err { OnErr result (PassesPart (O.written outer.old) (O.written outer.new) name.now self.old bytes.now) }
@@ -78,7 +73,8 @@ impl Pieces {
         Ok(())
     }
 
-    /// Writes what waits, the last piece, if there is anything. Where that fails, the file has gained the first bytes of it.
+    /// Writes what waits, the last piece, if there is anything. Where that fails, the file has
+    /// gained the first bytes of it.
     pub fn flush<O: Outer>(&mut self, outer: &mut O, name: &str) -> Result<(), Failed>
         ensures empty { self.new ≡ [] }
         ensures ok { OnOk result (Grows (O.written outer.old) (O.written outer.new) name.now self.old) }
@@ -97,3 +93,6 @@ impl Pieces {
         written
     }
 }
+
+#[cfg(test)]
+mod tests;

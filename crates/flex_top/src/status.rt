@@ -112,8 +112,16 @@ mod tests {
             (Status::Ended, 0, ""),
             (Status::Usage, 1, "flexemu: usage\n"),
             (Status::ReadFault, 2, "flexemu: read fault\n"),
-            (Status::ImageRefused(ImageFault::SegmentOutsideRam(7)), 3, "flexemu: image refused 9\n"),
-            (Status::ImageRefused(ImageFault::TooLong(1)), 3, "flexemu: image refused 11\n"),
+            (
+                Status::ImageRefused(ImageFault::SegmentOutsideRam(7)),
+                3,
+                "flexemu: image refused 9\n",
+            ),
+            (
+                Status::ImageRefused(ImageFault::TooLong(1)),
+                3,
+                "flexemu: image refused 11\n",
+            ),
             (Status::OutOfMemory, 5, "flexemu: out of memory\n"),
             (Status::WriteFault, 6, "flexemu: write fault\n"),
             (Status::Unbuilt(None), 10, "flexemu: unbuilt\n"),

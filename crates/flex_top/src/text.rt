@@ -11,3 +11,6 @@ pub use event::event_line;
 pub use hart::{SHOWN_CSRS, csr_line, hart_line, register_line};
 pub use header::header_line;
 pub use tail::{digest_line, stop_line};
+
+#[cfg(test)]
+mod tests;

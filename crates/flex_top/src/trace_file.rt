@@ -211,3 +211,6 @@ fn add_trace<O: Outer>(
     add_closing(outer, name, pieces, trace.stop, trace.harts, trace.ram)?;
     Ok(())
 }
+
+#[cfg(test)]
+mod tests;

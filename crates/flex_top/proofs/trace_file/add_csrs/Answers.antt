@@ -1,4 +1,4 @@
-use Rattle.std.proofs.Common.{◌≡◌, ◌<◌, ◌≤◌, length, ◌∙◌, rules, arith}
+use Rattle.std.proofs.Common.{◌∙◌, rules, arith}
 use Rattle.flex_top.specs.TailText.{csr_text, csrs_text, shown_csrs}
 use Rattle.flex_base.specs.State.{State}
 use Rattle.hart_story.specs.StandsFor.{StandsFor}

@@ -1,4 +1,4 @@
-use Rattle.std.proofs.Common.{◌≡◌, ◌∙◌, refl, rules}
+use Rattle.std.proofs.Common.{◌∙◌, refl, rules}
 use Rattle.flex_top.specs.EventText.{event_text}
 use Rattle.flex_top.specs.TailText.{events_text}
 use Rattle.flex_top.proofs.Growth.{on_err, passes_none, passes_more, part_within}

@@ -1,5 +1,5 @@
-use Rattle.std.proofs.Common.{◌≡◌, ℕ, ◌+◌, ◌<◌, length, List, get_or, sym, ap, refl, ◌∙◌, rules, arith}
-use Rattle.std.specs.List.{flat_map, range_with_len}
+use Rattle.std.proofs.Common.{◌≡◌, ℕ, ◌<◌, length, List, get_or, sym, ap, ◌∙◌, rules, arith}
+use Rattle.std.specs.List.{range_with_len}
 use Rattle.std.proofs.lemmas.List.FromFn.{length-range_with_len, get_or-range_with_len}
 use Rattle.flex_base.specs.State.{State}
 use Rattle.flex_top.specs.TailText.{hart_text, harts_text}
@@ -15,8 +15,8 @@ returns-in_err-add_hart-clause-err g c =
     let within : h < length (range_with_len 0 (length harts)) = omega (arith, length-range_with_len 0 (length harts)) in
     let this : get_or (range_with_len 0 (length harts)) h 0 ≡ h = get_or-range_with_len 0 (length harts) h 0 (omega arith) ∙ omega arith in
     let fails : (state : ℕ → State) → AllStand harts state → PassesPart (g.O.Outer.written c.args.outer.now) (g.O.Outer.written c.add_hart.new.outer) c.args.name.now c.args.pieces.now (harts_text (length harts) state) = λ state stand.
-        let text : ℕ → List ℕ = λ n. hart_text n (state n) in
-        part_within text (range_with_len 0 (length harts)) h 0 _ _ _ _ _ _ (text h) within (ap text (sym this)) (c.loop-h.invariant.passes state stand) (c.in_err-add_hart.ensures.err (state h) (stand h _ (omega arith))) in
+    let text : ℕ → List ℕ = λ n. hart_text n (state n) in
+    part_within text (range_with_len 0 (length harts)) h 0 _ _ _ _ _ _ (text h) within (ap text (sym this)) (c.loop-h.invariant.passes state stand) (c.in_err-add_hart.ensures.err (state h) (stand h _ (omega arith))) in
     on_err _ fails
 
 pub loop-h-preserved : goal.loop-h-preserved

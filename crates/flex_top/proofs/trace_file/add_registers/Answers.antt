@@ -1,4 +1,4 @@
-use Rattle.std.proofs.Common.{◌≡◌, ℕ, ◌+◌, ◌-◌, ◌<◌, length, get_or, sym, ap, ◌∙◌, rules, arith}
+use Rattle.std.proofs.Common.{◌≡◌, ◌+◌, ◌-◌, ◌<◌, length, get_or, sym, ap, ◌∙◌, rules, arith}
 use Rattle.flex_top.specs.TailText.{register_text, registers_text, register_numbers}
 use Rattle.flex_base.specs.State.{State}
 use Rattle.hart_story.specs.StandsFor.{StandsFor}
@@ -23,12 +23,12 @@ loop-register-preserved g c =
     let this : get_or register_numbers (r - 1) 0 ≡ r = get_or-register_numbers r 0 (omega arith) (omega arith) in
     let next : r + 1 - 1 ≡ (r - 1) + 1 = omega arith in
     record {
-  passes = λ a stands. rw next (passes_more (register_text c.args.id.0 a) register_numbers (r - 1) 0 _ _ _ _ _ _ _ _ within (c.bytes.ensures.value ∙ c.register_line.ensures a stands ∙ ap (register_text c.args.id.0 a) (sym this)) (c.loop-register.invariant.passes a stands) c.in_ok-add.ensures.ok);
-  write_faults = search rules;
-  read_faults = search rules;
-  held = search rules;
-  said = search rules;
-}
+      passes = λ a stands. rw next (passes_more (register_text c.args.id.0 a) register_numbers (r - 1) 0 _ _ _ _ _ _ _ _ within (c.bytes.ensures.value ∙ c.register_line.ensures a stands ∙ ap (register_text c.args.id.0 a) (sym this)) (c.loop-register.invariant.passes a stands) c.in_ok-add.ensures.ok);
+      write_faults = search rules;
+      read_faults = search rules;
+      held = search rules;
+      said = search rules;
+    }
 
 pub returns-clause-ok : goal.returns-clause-ok
 unfolding registers_text

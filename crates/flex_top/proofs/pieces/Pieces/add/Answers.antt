@@ -1,6 +1,5 @@
-use Rattle.std.proofs.Common.{◌≡◌, ◌-◌, ◌++◌, take, drop, subst, arith}
+use Rattle.std.proofs.Common.{◌≡◌, ◌-◌, ◌++◌, take, drop, arith}
 use Rattle.std.proofs.lemmas.Grind.{common_steps}
-use Rattle.flex_base.specs.Files.{ChangesFile, Appended}
 use Rattle.flex_top.proofs.Growth.{filled, grows_appended, part_of}
 use Rattle.flex_top.proofs.pieces.Pieces.add.Goals as goal
 

@@ -1,4 +1,4 @@
-use Rattle.std.proofs.Common.{◌≡◌, ℕ, arith}
+use Rattle.std.proofs.Common.{◌≡◌, arith}
 use Rattle.std.proofs.lemmas.Grind.{common_steps}
 use Rattle.flex_top.proofs.HexDigits.{hex_digits-none, hex_digits-more}
 use Rattle.flex_top.proofs.text.put.+put_digits.Goals as goal
