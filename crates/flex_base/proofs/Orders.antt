@@ -1,5 +1,5 @@
 -- A run's order is that of its events: names without an event change nothing, and a split run keeps the order.
-use Rattle.std.proofs.Common.{◌≡◌, ℕ, ◌+◌, zero, suc, arith, true, false, not, if◌then◌else◌, List, [], ◌∷◌, ◌++◌, map, filter, fold, length, refl, ap, sym, subst, ◌∙◌, append_assoc, append-nil, slice_index_or}
+use Rattle.std.proofs.Common.{◌≡◌, ℕ, ◌+◌, zero, suc, arith, true, false, not, if◌then◌else◌, List, [], ◌∷◌, ◌++◌, map, filter, fold, length, refl, ap, sym, ◌∙◌, append_assoc, append-nil, slice_index_or}
 use Rattle.std.specs.List.{range_with_len}
 use Rattle.std.proofs.lemmas.List.{map-append, length_push}
 use Rattle.std.proofs.lemmas.List.Elements.{filter-append}

@@ -1,18 +1,18 @@
 -- Turns, rounds and the end of a run.
-use Rattle.std.proofs.Common.{◌≡◌, ℕ, ◌+◌, ◌*◌, ◌<◌, zero, suc, Bool, true, false, ◌&&◌, if◌then◌else◌, List, [], ◌∷◌, ◌++◌, length, Option, None, Some, refl, ap, sym, ◌∙◌, arith}
+use Rattle.std.proofs.Common.{◌≡◌, ℕ, ◌<◌, Bool, true, false, ◌&&◌, if◌then◌else◌, List, [], ◌∷◌, ◌++◌, length, Option, None, Some, refl, ap, sym, ◌∙◌}
 use Rattle.std.specs.Prelude.{is_some}
 use Rattle.std.specs.List.{list_all, range_with_len}
 use Rattle.flex_base.specs.Setup.{Setup}
 use Rattle.flex_base.specs.State.{State}
-use Rattle.flex_base.specs.Story.{Want, Asks, Ends, IsOver, IsLater, Story, Says, Closes, StaysOver, ComesLater, want}
-use Rattle.flex_base.specs.Unsplit.{Machine, story_of, want_of, reply_to, step, reach, reach_from, begin, hart_numbers, is_spent, stop_of, is_over, has_ended}
-use Rattle.flex_base.specs.Rounds.{turn, turn_of, turns, repeated, rounds, played}
-use Rattle.flex_base.specs.Built.{is_built, unbuilt_at, first_of, first_unbuilt}
+use Rattle.flex_base.specs.Story.{Asks, Ends, IsOver, IsLater, Story, Says, Closes, StaysOver, ComesLater, want}
+use Rattle.flex_base.specs.Unsplit.{Machine, story_of, want_of, reply_to, step, reach_from, hart_numbers, is_spent, stop_of, is_over, has_ended}
+use Rattle.flex_base.specs.Rounds.{turn, turn_of, turns}
+use Rattle.flex_base.specs.Built.{unbuilt_at, first_of, first_unbuilt}
 use Rattle.flex_base.specs.declared.access.Access.{Access}
 use Rattle.flex_base.specs.declared.access.Reply.{Reply}
 use Rattle.flex_base.specs.declared.event.EndPart.{EndPart}
 use Rattle.flex_base.specs.declared.event.Stop.TheVariants as stop
-use Rattle.flex_base.proofs.Machines.{reach-cons, reach-none, reach-append, story_after_access}
+use Rattle.flex_base.proofs.Machines.{reach-cons, reach-none, story_after_access}
 
 -- The story by what is wanted.
 

@@ -1,18 +1,17 @@
 -- A step of the player is a step of the machine.
-use Rattle.std.proofs.Common.{◌≡◌, ◌≢◌, ℕ, ◌+◌, ◌<◌, Bool, true, false, ◌||◌, ◌&&◌, ◌==◌, if◌then◌else◌, nat_lt, List, [], ◌∷◌, ◌++◌, length, None, Some, refl, ap, sym, subst, ◌∙◌, arith, inl, inr, set, length-set}
+use Rattle.std.proofs.Common.{◌≡◌, ℕ, ◌+◌, ◌<◌, Bool, true, false, ◌||◌, ◌&&◌, ◌==◌, if◌then◌else◌, List, [], ◌∷◌, ◌++◌, length, None, Some, refl, ap, sym, subst, ◌∙◌, arith, inl, inr, set, length-set}
 use Rattle.std.proofs.lemmas.Bool.Decides.{eqb_tells}
 use Rattle.std.proofs.lemmas.List.Folds.{list_any-append}
 use Rattle.std.proofs.lemmas.List.Sums.{fold_push}
-use Rattle.std.specs.List.{list_any}
 use Rattle.flex_base.specs.Place.{ram_base}
 use Rattle.flex_base.specs.Setup.{Setup}
 use Rattle.flex_base.specs.State.{State, start}
-use Rattle.flex_base.specs.Story.{Want, Asks, Ends, IsOver, IsLater, want, story, ask}
-use Rattle.flex_base.specs.Built.{is_built_access, is_built_class, is_built, unbuilt_at}
+use Rattle.flex_base.specs.Story.{Want, Asks, Ends, IsOver, IsLater, want, story}
+use Rattle.flex_base.specs.Built.{is_built_access, is_built, unbuilt_at}
 use Rattle.flex_base.specs.Classes.{default_plan}
-use Rattle.flex_base.specs.FlatMemory.{Done, is_ram_access, left_by, byte, image_byte}
-use Rattle.flex_base.specs.Unsplit.{Machine, Made, Half, half_at, half_of, want_of, reply_to, step, make, makes, does, noted, is_spent, is_retire, is_over, stepped}
-use Rattle.flex_base.specs.Split.{Parted, Plan, part, parted, unparted}
+use Rattle.flex_base.specs.FlatMemory.{Done, is_ram_access, left_by, image_byte}
+use Rattle.flex_base.specs.Unsplit.{Machine, Made, Half, half_at, half_of, want_of, reply_to, step, makes, does, noted, is_spent, is_retire, is_over, stepped}
+use Rattle.flex_base.specs.Split.{Plan, part, parted, unparted}
 use Rattle.flex_base.specs.declared.access.Access.{Access}
 use Rattle.flex_base.specs.declared.access.Access.TheVariants as acc
 use Rattle.flex_base.specs.declared.access.Reply.{Reply}

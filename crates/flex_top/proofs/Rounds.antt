@@ -1,17 +1,17 @@
 -- A turn of the player is a turn of the machine, and its turns are the rounds.
-use Rattle.std.proofs.Common.{◌≡◌, ℕ, ◌+◌, ◌-◌, ◌*◌, ◌<◌, suc, Bool, true, false, List, [], ◌∷◌, ◌++◌, Option, None, Some, Result, Ok, Err, refl, ap, sym, subst, ◌∙◌, arith, append_assoc, append-nil}
+use Rattle.std.proofs.Common.{◌≡◌, ℕ, ◌+◌, ◌-◌, ◌*◌, ◌<◌, suc, true, false, List, [], ◌∷◌, ◌++◌, None, Some, Result, Ok, Err, refl, ap, sym, subst, ◌∙◌, arith, append_assoc, append-nil}
 use Rattle.std.specs.Prelude.{IfOk}
 use Rattle.flex_base.specs.Setup.{Setup}
 use Rattle.flex_base.specs.Story.{Want, Asks, Ends, IsOver, IsLater, want, story}
-use Rattle.flex_base.specs.Unsplit.{Machine, half_at, want_of, step, reach, reach_from, begin, hart_numbers, is_over, has_ended}
-use Rattle.flex_base.specs.Rounds.{turn_of, turns, repeated, most_rounds, rounds}
+use Rattle.flex_base.specs.Unsplit.{Machine, half_at, step, reach, reach_from, begin, hart_numbers, is_over, has_ended}
+use Rattle.flex_base.specs.Rounds.{turn_of, turns, repeated, most_rounds}
 use Rattle.flex_base.specs.Built.{unbuilt_at, first_of, first_unbuilt}
 use Rattle.flex_base.proofs.Stories.{IsBeginning, story_begins}
 use Rattle.flex_base.proofs.Machines.{reach-cons, reach-none, reach-append}
 use Rattle.flex_base.proofs.Turns.{first_unbuilt-append, names_alone, busy_alone, turns_ended, turns_busy}
 use Rattle.hart_story.specs.Progressing.{node}
 use Rattle.hart_story.specs.declared.progress.Progress.TheVariants as progress
-use Rattle.flex_top.specs.Play.{IsAt, Accesses, Finishes, IsDone, IsTurned, AfterTurn, HasPlayed, Played, solo_order}
+use Rattle.flex_top.specs.Play.{IsAt, Accesses, Finishes, IsDone, IsTurned, AfterTurn, HasPlayed, solo_order}
 use Rattle.flex_top.specs.declared.player.Player.{Player}
 use Rattle.flex_top.specs.declared.player.Turn.{Turn}
 use Rattle.flex_top.specs.declared.player.Turn.TheVariants as turn

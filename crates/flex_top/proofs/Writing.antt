@@ -1,13 +1,13 @@
 -- The text that is written is the trace of the run that was played.
-use Rattle.std.proofs.Common.{◌≡◌, ℕ, ◌+◌, ◌<◌, List, [], ◌∷◌, length, slice_index_or, Some, refl, ap, sym, subst, ◌∙◌, arith}
+use Rattle.std.proofs.Common.{◌≡◌, ℕ, ◌+◌, List, [], ◌∷◌, length, slice_index_or, Some, refl, ap, sym, subst, ◌∙◌, arith}
 use Rattle.std.proofs.lemmas.List.FromFn.{fill_by_all}
 use Rattle.flex_base.specs.Place.{ram_base}
 use Rattle.flex_base.specs.Setup.{Setup}
 use Rattle.flex_base.specs.State.{State}
 use Rattle.flex_base.specs.FlatMemory.{byte}
 use Rattle.flex_base.specs.Classes.{default_plan}
-use Rattle.flex_base.specs.Unsplit.{Machine, half_at, stop_of, reach, begin, unsplit, has_ended}
-use Rattle.flex_base.specs.Split.{Parted, Plan, parted, unparted, split}
+use Rattle.flex_base.specs.Unsplit.{Machine, half_at, stop_of, reach, unsplit, has_ended}
+use Rattle.flex_base.specs.Split.{Parted, Plan, parted, unparted}
 use Rattle.flex_base.specs.Journal.{console, order_of}
 use Rattle.flex_base.specs.declared.event.Event.{Event}
 use Rattle.flex_base.specs.declared.event.Stop.TheVariants as stop
@@ -20,9 +20,8 @@ use Rattle.hart_story.specs.declared.hart.Hart.{Hart}
 use Rattle.flex_top.specs.Answer.{journal_of, trace_of, IsWhole}
 use Rattle.flex_top.specs.Memory.{IsReplay}
 use Rattle.flex_top.specs.Play.{IsAt, HasPlayed, solo_order}
-use Rattle.flex_top.specs.Splitting.{parted_by}
 use Rattle.flex_top.specs.TailText.{whole_text}
-use Rattle.flex_top.specs.Trace.{settings_of, ram_bytes, trace_text}
+use Rattle.flex_top.specs.Trace.{settings_of, ram_bytes}
 use Rattle.flex_top.specs.Written.{AllStand}
 use Rattle.flex_top.specs.declared.player.Player.{Player}
 use Rattle.flex_top.proofs.WholeText.{trace_text-whole}
@@ -63,7 +62,7 @@ text_of budget events state memory = whole_text (sized 1 (length memory) budget)
 
 -- the trace of the run, as it is written
 pub trace_is : (setup : Setup) (player : Player) (memory : List ℕ) → HasPlayed setup player memory
-  → trace_of setup ≡ text_of player.budget player.run.events.items (λ h. (half_at (reach setup (solo_order setup)) h).state) memory
+    → trace_of setup ≡ text_of player.budget player.run.events.items (λ h. (half_at (reach setup (solo_order setup)) h).state) memory
 unfolding trace_of
 trace_is setup player memory done =
     let u = reach setup (solo_order setup) in

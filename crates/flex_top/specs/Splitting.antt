@@ -1,5 +1,5 @@
 -- The split run that the player keeps.
-use Rattle.std.specs.Prelude.{List, [], ◌∷◌}
+use Rattle.std.specs.Prelude.{[], ◌∷◌}
 use Rattle.flex_base.specs.Split.{Parted}
 use Rattle.flex_top.specs.declared.split_run.SplitRun.{SplitRun}
 

@@ -24,7 +24,12 @@ pub(crate) struct Prepared {
 }
 
 // Makes ready a run of a raw file. The error is want of memory.
-pub(crate) fn prepare(alloc: Global, file: &[u8], ram: u64, budget: u64) -> Result<Prepared, AllocError>
+pub(crate) fn prepare(
+    alloc: Global,
+    file: &[u8],
+    ram: u64,
+    budget: u64,
+) -> Result<Prepared, AllocError>
     requires { length file.now ≤ ram }
     ensures { IfOk result (λ prepared. IsPrepared (setup_of file.now ram budget) prepared) }
 {
@@ -74,7 +79,13 @@ impl Prepared {
 }
 
 // Writes the trace of a run that has ended.
-fn write<O: Outer>(outer: &mut O, name: &str, pieces: &mut Pieces, player: &Player, memory: &[u8]) -> Result<(), Failed>
+fn write<O: Outer>(
+    outer: &mut O,
+    name: &str,
+    pieces: &mut Pieces,
+    player: &Player,
+    memory: &[u8],
+) -> Result<(), Failed>
     ensures ok { OnOk result ((setup : Setup) → HasPlayed setup player.now memory.now → ChangesFile (O.written outer.old) (O.written outer.new) name.now (Becomes (trace_of setup))) }
     ensures err { OnErr result ((setup : Setup) → HasPlayed setup player.now memory.now → ChangesFile (O.written outer.old) (O.written outer.new) name.now (BecomesPart (trace_of setup))) }
     ensures cause { Counts (O.write_faults outer.old) (O.write_faults outer.new) (IsErr result) }

@@ -5,18 +5,17 @@ use Rattle.flex_base.specs.Place.{in_ram}
 use Rattle.flex_base.specs.Setup.{Setup}
 use Rattle.flex_base.specs.State.{State}
 use Rattle.flex_base.specs.Decoding.{decoded}
-use Rattle.flex_base.specs.Story.{Want, Asks, Ends, IsOver, IsLater, Story, Says, Closes, story, works, jumps, ends, traps, want, ask, goes}
+use Rattle.flex_base.specs.Story.{Asks, Ends, story, works, jumps, ends, traps, want, ask}
 use Rattle.flex_base.specs.Built.{is_built_access}
 use Rattle.flex_base.specs.declared.access.Access.{Access}
-use Rattle.flex_base.specs.declared.access.Access.TheVariants as acc
 use Rattle.flex_base.specs.declared.access.Reply.{Reply}
 use Rattle.flex_base.specs.declared.class.Class.TheVariants as class
 use Rattle.flex_base.specs.declared.event.EndPart.{EndPart}
 use Rattle.flex_base.specs.declared.operation.Op.{Op}
 use Rattle.flex_base.specs.declared.operation.Op.TheVariants as op
 use Rattle.flex_base.specs.declared.operation.AluOp.TheVariants as alu
-use Rattle.flex_base.proofs.Stories.{goes_push, after_one, retires, goes_on, story_spent, story_due, story_fetches, story_outside}
-use Rattle.hart_story.specs.Progressing.{node, Reached, IsIn, IsAsking, is_retired}
+use Rattle.flex_base.proofs.Stories.{goes_push, after_one, goes_on, story_due, story_fetches, story_outside}
+use Rattle.hart_story.specs.Progressing.{node, Reached, is_retired}
 use Rattle.hart_story.specs.declared.progress.Progress.{Progress}
 use Rattle.hart_story.specs.declared.progress.Progress.TheVariants as progress
 

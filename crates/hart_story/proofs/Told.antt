@@ -8,7 +8,6 @@ use Rattle.flex_base.specs.declared.access.Access.{Access}
 use Rattle.flex_base.specs.declared.class.Class.{Class}
 use Rattle.flex_base.specs.declared.event.EndPart.{EndPart}
 use Rattle.hart_story.specs.Telling.{told}
-use Rattle.hart_story.specs.declared.progress.Need.{Need}
 use Rattle.hart_story.specs.declared.progress.Need.TheVariants as need
 
 -- an access that is asked is wanted, and built

@@ -1,5 +1,5 @@
 -- What a hart in the code stands for.
-use Rattle.std.specs.Prelude.{◌≡◌, ℕ, ◌==◌, ◌&&◌, not, Option, None}
+use Rattle.std.specs.Prelude.{◌≡◌, ◌==◌, ◌&&◌, not, None}
 use Rattle.flex_base.specs.Word.{is_multiple}
 use Rattle.flex_base.specs.State.{State}
 use Rattle.flex_base.specs.declared.hart.Mode.TheVariants as mode

@@ -2,7 +2,7 @@
 use Rattle.std.specs.Prelude.{◌≡◌, ℕ, true, if◌then◌else◌}
 use Rattle.flex_base.specs.Word.{is_multiple}
 use Rattle.flex_base.specs.Setup.{Setup}
-use Rattle.flex_base.specs.State.{State, IsFit}
+use Rattle.flex_base.specs.State.{State}
 use Rattle.flex_base.specs.Story.{Want, Asks, Ends, IsOver, IsLater, Story, ComesLater, ends}
 use Rattle.flex_base.specs.Built.{is_built_access, is_built_class}
 use Rattle.flex_base.specs.Classes.{class_of_access}

@@ -1,4 +1,4 @@
-use Rattle.std.proofs.Common.{◌≡◌, ℕ, ◌+◌, ◌-◌, ◌<◌, ◌^◌, slice_index}
+use Rattle.std.proofs.Common.{◌≡◌, ◌+◌, ◌-◌, ◌<◌, ◌^◌, slice_index}
 use Rattle.flex_base.specs.FlatMemory.{value_at}
 use Rattle.flex_top.proofs.memory.read.Given as goal
 

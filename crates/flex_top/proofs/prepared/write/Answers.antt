@@ -1,8 +1,6 @@
 -- The text that is written is the trace of the run.
-use Rattle.std.proofs.Common.{◌≡◌, subst, sym, List, ℕ, ◌∷◌, []}
+use Rattle.std.proofs.Common.{subst, sym, List, ℕ}
 use Rattle.flex_base.specs.Files.{ChangesFile}
-use Rattle.flex_base.specs.State.{State}
-use Rattle.flex_base.specs.Setup.{Setup}
 use Rattle.flex_base.specs.Unsplit.{half_at, reach}
 use Rattle.flex_base.specs.declared.event.Event.{Event}
 use Rattle.flex_top.specs.Play.{solo_order}

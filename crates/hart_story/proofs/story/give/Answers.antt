@@ -1,5 +1,5 @@
 -- After the retirement the hart is over, and after the fetch it has its word.
-use Rattle.std.proofs.Common.{◌≡◌, ◌≢◌, refl, ap, sym, ◌∙◌, arith}
+use Rattle.std.proofs.Common.{◌≡◌, ◌≢◌, ap, sym, ◌∙◌, arith}
 use Rattle.flex_base.specs.Story.{want}
 use Rattle.flex_base.proofs.Stories.{after_one, story_spent}
 use Rattle.hart_story.specs.Progressing.{node}

@@ -1,5 +1,5 @@
 -- What is wanted is what the work comes to.
-use Rattle.std.proofs.Common.{◌≡◌, if◌then◌else◌, ap, sym, ◌∙◌}
+use Rattle.std.proofs.Common.{if◌then◌else◌, ap, sym, ◌∙◌}
 use Rattle.flex_base.specs.Story.{want}
 use Rattle.hart_story.specs.Telling.{told}
 use Rattle.hart_story.specs.declared.progress.Need.TheVariants as need

@@ -1,6 +1,5 @@
 -- What is wanted follows from where the replies lead.
-use Rattle.std.proofs.Common.{◌≡◌, ap, sym, ◌∙◌}
-use Rattle.flex_base.specs.Decoding.{decoded}
+use Rattle.std.proofs.Common.{ap, sym, ◌∙◌}
 use Rattle.flex_base.specs.Story.{want}
 use Rattle.hart_story.specs.Progressing.{node}
 use Rattle.hart_story.specs.Telling.{told}

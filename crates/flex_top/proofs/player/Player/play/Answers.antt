@@ -1,9 +1,8 @@
 -- The turns so far are the rounds so far.
-use Rattle.std.proofs.Common.{◌≡◌, ◌<◌, subst, arith}
-use Rattle.flex_base.specs.Setup.{Setup}
-use Rattle.flex_base.specs.Unsplit.{Machine, reach}
+use Rattle.std.proofs.Common.{◌<◌, subst, arith}
+use Rattle.flex_base.specs.Unsplit.{reach}
 use Rattle.flex_base.specs.Rounds.{most_rounds}
-use Rattle.flex_top.specs.Play.{IsAt, AfterTurn, TurnCounts}
+use Rattle.flex_top.specs.Play.{AfterTurn, TurnCounts}
 use Rattle.flex_top.specs.declared.player.Turn.{Turn}
 use Rattle.flex_top.proofs.Rounds.{playing_none, playing_more, played_all, played_stuck, below_most}
 use Rattle.flex_top.proofs.player.Player.play.Goals as goal

@@ -1,10 +1,8 @@
 -- What is told is what the machine's hart wants; the player follows it.
-use Rattle.std.proofs.Common.{◌≡◌, ◌==◌, if◌then◌else◌, ◌++◌, ◌∷◌, [], true, false, Some, None, refl, ap, sym, subst, ◌∙◌, ◌<◌, length, arith}
-use Rattle.flex_base.specs.Unsplit.{Machine, half_at, want_of, reply_to, does}
+use Rattle.std.proofs.Common.{◌≡◌, ◌++◌, ◌∷◌, [], Some, refl, ap, sym, subst, ◌∙◌, ◌<◌, length, arith}
+use Rattle.flex_base.specs.Unsplit.{half_at, want_of, reply_to, does}
 use Rattle.flex_base.specs.Story.{want}
 use Rattle.flex_base.specs.Built.{is_built}
-use Rattle.flex_base.specs.Forms.{IsPlaced}
-use Rattle.flex_base.specs.Setup.{Setup}
 use Rattle.flex_base.specs.Classes.{default_plan}
 use Rattle.flex_base.specs.Split.{part}
 use Rattle.flex_base.specs.declared.access.Reply.{Reply}

@@ -1,8 +1,7 @@
 -- What was played is whole, and says nothing.
 use Rattle.std.proofs.Common.{List, ℕ, sym, subst}
 use Rattle.flex_base.specs.Unsplit.{begin}
-use Rattle.flex_base.specs.Setup.{Setup}
-use Rattle.flex_top.specs.Play.{IsAt, HasPlayed}
+use Rattle.flex_top.specs.Play.{IsAt}
 use Rattle.flex_top.proofs.Writing.{run_whole, run_quiet}
 use Rattle.flex_top.proofs.prepared.Prepared.run.Goals as goal
 
