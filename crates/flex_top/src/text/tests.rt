@@ -3,6 +3,7 @@ use flex_base::{
     Access, AmoOp, Class, EndPart, Engine, Event, HartId, Line, Reply, Settings, Stop, What,
 };
 use hart_story::Hart;
+use std::alloc::{AllocError, Global};
 use std::process::Abort;
 
 fn reply(value: u64, lines: u64, stop: bool) -> Reply {
@@ -19,242 +20,132 @@ fn end(class: Class, next: u64, first: u64, second: u64) -> What {
     })
 }
 
-fn assert_event(rt: &impl Abort, number: u64, hart: u8, engine: Engine, what: What, text: &str) {
-    let event = Event {
-        number,
-        hart: HartId(hart),
-        engine,
-        what,
-    };
+// Whether the event's line is its number, its hart, its engine and this text.
+fn assert_event(
+    rt: &impl Abort,
+    alloc: Global,
+    event: &Event,
+    text: &str,
+) -> Result<(), AllocError> {
     let mut line = Line::new();
-    event_line(&event, &mut line);
-    assert!(rt; line.bytes() == text.as_bytes(), "not {text}");
+    event_line(event, &mut line);
+    let (number, hart) = (event.number, event.hart.0);
+    let whole = format!(in alloc; "{number} {hart} p {text}\n")?;
+    assert!(rt; line.bytes() == whole.as_bytes(), "not {whole}");
+    Ok(())
 }
 
+fn event(number: u64, hart: u8, what: What) -> Event {
+    Event {
+        number,
+        hart: HartId(hart),
+        engine: Engine::Pipe,
+        what,
+    }
+}
+
+#[rattlefmt::skip]
 #[test]
-fn writes_each_access(rt: HostRuntime) {
+fn writes_each_access(rt: HostRuntime) -> Result<(), AllocError> {
     let address = 0x8000_0100;
     let value = 0x0123_4567_89ab_cdef;
     for (access, reply, text) in [
-        (
-            Access::Fetch { address },
-            reply(0x0070_0293, 0, false),
-            "7 31 p fetch 0000000080000100 00700293\n",
-        ),
-        (
-            Access::Pte { address },
-            reply(0x2000_00cf, 0, false),
-            "7 31 p pte 0000000080000100 00000000200000cf\n",
-        ),
-        (
-            Access::Read { address, width: 8 },
-            reply(value, 0, false),
-            "7 31 p read 0000000080000100 8 0123456789abcdef\n",
-        ),
-        (
-            Access::Write {
-                address,
-                width: 1,
-                value: 255,
-            },
-            reply(0, 0, false),
-            "7 31 p write 0000000080000100 1 00000000000000ff\n",
-        ),
-        (
-            Access::Lr { address, width: 4 },
-            reply(10, 0, false),
-            "7 31 p lr 0000000080000100 4 000000000000000a\n",
-        ),
-        (
-            Access::Sc {
-                address,
-                width: 8,
-                value,
-            },
-            reply(0, 0, false),
-            "7 31 p sc 0000000080000100 8 0123456789abcdef 0\n",
-        ),
-        (
-            Access::Sc {
-                address,
-                width: 2,
-                value: 1,
-            },
-            reply(1, 0, false),
-            "7 31 p sc 0000000080000100 2 0000000000000001 1\n",
-        ),
-        (
-            Access::Amo {
-                op: AmoOp::Minu,
-                address,
-                width: 8,
-                value,
-            },
-            reply(16, 0, false),
-            "7 31 p amo minu 0000000080000100 8 0123456789abcdef 0000000000000010\n",
-        ),
-        (
-            Access::DevRead {
-                address: 0x1000_0005,
-                width: 1,
-            },
-            reply(0x60, 0, false),
-            "7 31 p devread 0000000010000005 1 0000000000000060\n",
-        ),
-        (
-            Access::DevWrite {
-                address: 0x0200_4000,
-                width: 8,
-                value: 1000,
-            },
-            reply(0, 0, false),
-            "7 31 p devwrite 0000000002004000 8 00000000000003e8\n",
-        ),
-        (
-            Access::Pulse { tick: false },
-            reply(0, 0, false),
-            "7 31 p pulse 0 0000000000000000 0 0\n",
-        ),
-        (
-            Access::Pulse { tick: true },
-            reply(1, 128, true),
-            "7 31 p pulse 1 0000000000000080 1 1\n",
-        ),
-        (
-            Access::Wait { mie: 128 },
-            reply(1, 8, false),
-            "7 31 p wait 0000000000000080 0000000000000008 1 0\n",
-        ),
-        (Access::Retire, reply(0, 0, false), "7 31 p retire\n"),
-        (
-            Access::Time,
-            reply(11, 0, false),
-            "7 31 p time 000000000000000b\n",
-        ),
+        (Access::Fetch { address }, reply(0x0070_0293, 0, false), "fetch 0000000080000100 00700293"),
+        (Access::Pte { address }, reply(0x2000_00cf, 0, false), "pte 0000000080000100 00000000200000cf"),
+        (Access::Read { address, width: 8 }, reply(value, 0, false), "read 0000000080000100 8 0123456789abcdef"),
+        (Access::Write { address, width: 1, value: 255 }, reply(0, 0, false), "write 0000000080000100 1 00000000000000ff"),
+        (Access::Lr { address, width: 4 }, reply(10, 0, false), "lr 0000000080000100 4 000000000000000a"),
+        (Access::Sc { address, width: 8, value }, reply(0, 0, false), "sc 0000000080000100 8 0123456789abcdef 0"),
+        (Access::Sc { address, width: 2, value: 1 }, reply(1, 0, false), "sc 0000000080000100 2 0000000000000001 1"),
+        (Access::Amo { op: AmoOp::Minu, address, width: 8, value }, reply(16, 0, false), "amo minu 0000000080000100 8 0123456789abcdef 0000000000000010"),
+        (Access::DevRead { address, width: 1 }, reply(0x60, 0, false), "devread 0000000080000100 1 0000000000000060"),
+        (Access::DevWrite { address, width: 8, value: 1000 }, reply(0, 0, false), "devwrite 0000000080000100 8 00000000000003e8"),
+        (Access::Pulse { tick: false }, reply(0, 0, false), "pulse 0 0000000000000000 0 0"),
+        (Access::Pulse { tick: true }, reply(1, 128, true), "pulse 1 0000000000000080 1 1"),
+        (Access::Wait { mie: 128 }, reply(1, 8, false), "wait 0000000000000080 0000000000000008 1 0"),
+        (Access::Retire, reply(0, 0, false), "retire"),
+        (Access::Time, reply(11, 0, false), "time 000000000000000b"),
     ] {
-        assert_event(&rt, 7, 31, Engine::Pipe, What::Acc(access, reply), text);
+        assert_event(&rt, rt.alloc(), &event(7, 31, What::Acc(access, reply)), text)?;
     }
+    Ok(())
 }
 
 #[test]
-fn writes_ends_and_handovers(rt: HostRuntime) {
-    let most = u64::MAX;
-    for (number, hart, engine, what, text) in [
-        (
-            0,
-            0,
-            Engine::Kernel,
-            What::Handover(Engine::Host),
-            "0 0 k to h\n",
-        ),
-        (
-            10,
-            1,
-            Engine::Host,
-            What::Handover(Engine::Pipe),
-            "10 1 h to p\n",
-        ),
-        (
-            1,
-            0,
-            Engine::Pipe,
-            end(Class::Alu, 0x8000_0008, 5, 7),
-            "1 0 p end alu 0000000080000004 0000000080000008 x5 0000000000000007\n",
-        ),
-        (
-            5,
-            0,
-            Engine::Pipe,
-            end(Class::Jump, 0x8000_0000, 0, 0),
-            "5 0 p end jump 0000000080000004 0000000080000000 x0 0000000000000000\n",
-        ),
-        (
-            6,
-            0,
-            Engine::Kernel,
-            end(Class::Trap, 0, 2, 0xf142_a0f3),
-            "6 0 k end trap 0000000080000004 0000000000000000 0000000000000002 00000000f142a0f3\n",
-        ),
-        (
-            most,
-            255,
-            Engine::Host,
-            end(Class::Muldiv, most, most, most),
-            "18446744073709551615 255 h end muldiv 0000000080000004 ffffffffffffffff x18446744073709551615 ffffffffffffffff\n",
-        ),
-        (
-            2,
-            0,
-            Engine::Pipe,
-            end(Class::Fetch, 0, 31, 0),
-            "2 0 p end fetch 0000000080000004 0000000000000000 x31 0000000000000000\n",
-        ),
-        (
-            2,
-            0,
-            Engine::Pipe,
-            end(Class::Load, 0, 1, 0),
-            "2 0 p end load 0000000080000004 0000000000000000 x1 0000000000000000\n",
-        ),
-        (
-            2,
-            0,
-            Engine::Pipe,
-            end(Class::Store, 0, 0, 0),
-            "2 0 p end store 0000000080000004 0000000000000000 x0 0000000000000000\n",
-        ),
-        (
-            2,
-            0,
-            Engine::Pipe,
-            end(Class::Atomic, 0, 0, 0),
-            "2 0 p end atomic 0000000080000004 0000000000000000 x0 0000000000000000\n",
-        ),
-        (
-            2,
-            0,
-            Engine::Pipe,
-            end(Class::Fence, 0, 0, 0),
-            "2 0 p end fence 0000000080000004 0000000000000000 x0 0000000000000000\n",
-        ),
-        (
-            2,
-            0,
-            Engine::Pipe,
-            end(Class::Csr, 0, 0, 0),
-            "2 0 p end csr 0000000080000004 0000000000000000 x0 0000000000000000\n",
-        ),
-        (
-            2,
-            0,
-            Engine::Pipe,
-            end(Class::System, 0, 0, 0),
-            "2 0 p end system 0000000080000004 0000000000000000 x0 0000000000000000\n",
-        ),
-        (
-            2,
-            0,
-            Engine::Pipe,
-            end(Class::Walk, 0, 0, 0),
-            "2 0 p end walk 0000000080000004 0000000000000000 x0 0000000000000000\n",
-        ),
-        (
-            2,
-            0,
-            Engine::Pipe,
-            end(Class::Pulse, 0, 0, 0),
-            "2 0 p end pulse 0000000080000004 0000000000000000 x0 0000000000000000\n",
-        ),
-        (
-            2,
-            0,
-            Engine::Pipe,
-            end(Class::Device, 0, 0, 0),
-            "2 0 p end device 0000000080000004 0000000000000000 x0 0000000000000000\n",
-        ),
+fn names_each_operation(rt: HostRuntime) -> Result<(), AllocError> {
+    for (op, name) in [
+        (AmoOp::Swap, "swap"),
+        (AmoOp::Add, "add"),
+        (AmoOp::Xor, "xor"),
+        (AmoOp::And, "and"),
+        (AmoOp::Or, "or"),
+        (AmoOp::Min, "min"),
+        (AmoOp::Max, "max"),
+        (AmoOp::Minu, "minu"),
+        (AmoOp::Maxu, "maxu"),
     ] {
-        assert_event(&rt, number, hart, engine, what, text);
+        let access = Access::Amo {
+            op,
+            address: 8,
+            width: 4,
+            value: 1,
+        };
+        let text = format!(in rt.alloc();
+            "amo {name} 0000000000000008 4 0000000000000001 0000000000000002"
+        )?;
+        let happened = What::Acc(access, reply(2, 0, false));
+        assert_event(&rt, rt.alloc(), &event(0, 0, happened), text.as_str())?;
     }
+    Ok(())
+}
+
+#[test]
+fn names_each_class(rt: HostRuntime) -> Result<(), AllocError> {
+    for (class, name) in [
+        (Class::Fetch, "fetch"),
+        (Class::Alu, "alu"),
+        (Class::Muldiv, "muldiv"),
+        (Class::Jump, "jump"),
+        (Class::Load, "load"),
+        (Class::Store, "store"),
+        (Class::Atomic, "atomic"),
+        (Class::Fence, "fence"),
+        (Class::Csr, "csr"),
+        (Class::System, "system"),
+        (Class::Walk, "walk"),
+        (Class::Pulse, "pulse"),
+        (Class::Device, "device"),
+    ] {
+        let text = format!(in rt.alloc();
+            "end {name} 0000000080000004 0000000080000008 x31 000000000000000f"
+        )?;
+        let happened = end(class, 0x8000_0008, 31, 15);
+        assert_event(&rt, rt.alloc(), &event(0, 0, happened), text.as_str())?;
+    }
+    Ok(())
+}
+
+#[rattlefmt::skip]
+#[test]
+fn writes_ends_and_handovers(rt: HostRuntime) -> Result<(), AllocError> {
+    let most = u64::MAX;
+    for (number, hart, happened, text) in [
+        (1, 0, end(Class::Jump, 0x8000_0000, 0, 0), "end jump 0000000080000004 0000000080000000 x0 0000000000000000"),
+        (6, 0, end(Class::Trap, 0, 2, 0xf142_a0f3), "end trap 0000000080000004 0000000000000000 0000000000000002 00000000f142a0f3"),
+        (most, 255, end(Class::Muldiv, most, most, most), "end muldiv 0000000080000004 ffffffffffffffff x18446744073709551615 ffffffffffffffff"),
+        (10, 31, What::Handover(Engine::Pipe), "to p"),
+        (10, 31, What::Handover(Engine::Kernel), "to k"),
+        (10, 31, What::Handover(Engine::Host), "to h"),
+    ] {
+        assert_event(&rt, rt.alloc(), &event(number, hart, happened), text)?;
+    }
+    let mut line = Line::new();
+    for (engine, text) in [(Engine::Kernel, "7 0 k to p\n"), (Engine::Host, "7 0 h to p\n")] {
+        let leaves = Event { number: 7, hart: HartId(0), engine, what: What::Handover(Engine::Pipe) };
+        event_line(&leaves, &mut line);
+        assert_line(&rt, &line, text);
+    }
+    Ok(())
 }
 
 fn assert_line(rt: &impl Abort, line: &Line, text: &str) {
