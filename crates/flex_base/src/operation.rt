@@ -103,6 +103,4 @@ pub enum Op {
     Wfi,
     SfenceVma { rs1: u8, rs2: u8 },
     Illegal(u32),
-    /// A word whose row isn't built yet.
-    Later(u32),
 }

@@ -2,6 +2,11 @@
 //! back. It equals the table of instruction rows, in which each row is a mask and a match.
 #![tactic(auto)]
 
+mod atomic;
 mod decoder;
+mod forms;
+mod integer;
+mod system;
+mod word;
 
 pub use decoder::decode;
