@@ -1,2 +1,4 @@
 mod Pieces
 mod Opcodes
+mod OneRow
+mod Back

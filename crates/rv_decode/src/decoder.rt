@@ -1,5 +1,6 @@
-ghost use Rattle.std.specs.Prelude.{◌≡◌};
-ghost use Rattle.flex_base.specs.Decoding.{decoded};
+ghost use Rattle.std.specs.Prelude.{◌≡◌, ◌≤◌, length};
+ghost use Rattle.std.specs.List.{filter};
+ghost use Rattle.flex_base.specs.Decoding.{decoded, fits_row, rows};
 ghost use Rattle.flex_base.specs.Word.{field};
 
 use crate::atomic::decode_atomic;
@@ -13,9 +14,11 @@ use flex_base::{BranchOp, Op};
 
 /// The operation of the row that the word matches, with its fields; `Illegal` where no row matches
 /// (Volume I, "RV32/64G Instruction Set Listings").
-#[tactic(auto, using(crate::proofs::Opcodes::opcodes), unfolding(flex_base::specs::Decoding::rows))]
+#[tactic(auto, using(crate::proofs::Opcodes::opcodes, crate::proofs::OneRow::one_row), unfolding(flex_base::specs::Decoding::rows))]
 pub fn decode(word: u32) -> Op
-    ensures { result ≡ decoded word }
+    ensures meaning { result ≡ decoded word }
+    // no word fits two rows, so the order of the rows means nothing
+    ensures one_row { length (filter (fits_row word) rows) ≤ 1 }
 {
     match opcode(word) {
         0x03 => decode_load(word),

@@ -3,10 +3,16 @@
 #![tactic(auto)]
 
 mod atomic;
+mod class;
 mod decoder;
+mod encoder;
+mod formats;
 mod forms;
+mod functs;
 mod integer;
 mod system;
 mod word;
 
+pub use class::class_of;
 pub use decoder::decode;
+pub use encoder::{encode, is_op};
