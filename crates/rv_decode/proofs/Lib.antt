@@ -2,3 +2,4 @@ mod Pieces
 mod Opcodes
 mod OneRow
 mod Back
+mod Same

@@ -1,13 +1,13 @@
 -- The rows of each opcode: a word of this opcode means the first row that fits its other pieces.
 -- With `rows` unfolded, the rows of other opcodes compute away.
-use Rattle.std.proofs.Common.{◌≡◌, ◌≢◌, ◌<◌, ◌^◌, ◌-◌, ℕ, bit_and, Bool, true, false, not, cond, ◌&&◌, ◌||◌, eqb, List, [], ◌∷◌, arith, refl, subst}
+use Rattle.std.proofs.Common.{◌≡◌, ◌<◌, ◌^◌, ◌-◌, ℕ, bit_and, Bool, true, false, not, cond, ◌&&◌, ◌||◌, eqb, List, [], ◌∷◌, arith, subst}
 use Rattle.std.proofs.lemmas.Bool.Decides.{nat_tests}
 use Rattle.std.proofs.lemmas.Nat.{and_mask, pow_below}
 use Rattle.std.specs.List.{list_all, list_any}
 use Rattle.flex_base.specs.Word.{field}
 use Rattle.flex_base.specs.Decoding.{Row, decoded, fits_row, rows, lui, auipc, jal}
 use Rattle.flex_base.specs.declared.operation.Op.TheVariants as op
-use Rattle.rv_decode.proofs.Pieces.{spelled, InRange, fits_above, fits_piece, fits_field, field_first, meaning, fits_by_pieces, decoded_by, decoded_none}
+use Rattle.rv_decode.proofs.Pieces.{spelled, InRange, fits_above, fits_piece, field_first, meaning, fits_by_pieces, decoded_by, decoded_none}
 
 -- the pieces above the opcode: rd, funct3, rs1, rs2, funct7
 abbrev pub cut_at : ℕ → ℕ → List (ℕ × ℕ)

@@ -1,5 +1,5 @@
 -- A word cut into pieces: whether it fits a row is told piece by piece.
-use Rattle.std.proofs.Common.{◌≡◌, ◌<◌, ◌≤◌, ℕ, ◌+◌, ◌*◌, ◌/◌, ◌%◌, ◌^◌, ◌-◌, Bool, true, false, cond, ◌&&◌, eqb, List, [], ◌∷◌, Option, None, Some, bit_and, refl, ap, arith, ◌∙◌}
+use Rattle.std.proofs.Common.{◌≡◌, ◌<◌, ℕ, ◌+◌, ◌*◌, ◌/◌, ◌%◌, ◌^◌, ◌-◌, Bool, true, false, cond, ◌&&◌, eqb, List, [], ◌∷◌, None, Some, bit_and, refl, ap, arith, ◌∙◌}
 use Rattle.std.proofs.lemmas.Nat.{and_mask, and_block, and_le_r, same_from_place, pow_pos, and_mod, and_shr, shr_split, mod_below}
 use Rattle.std.proofs.lemmas.Bool.Decides.{nat_tests}
 use Rattle.std.proofs.Math.Bool.{and_comm}
@@ -8,7 +8,7 @@ use Rattle.std.proofs.Math.Path.{sym}
 use Rattle.std.specs.Int.Bits.{and_lt}
 use Rattle.std.specs.List.{find, list_all}
 use Rattle.flex_base.specs.Word.{field}
-use Rattle.flex_base.specs.Decoding.{Row, row, rows, decoded, fits_row, made_by}
+use Rattle.flex_base.specs.Decoding.{Row, rows, decoded, fits_row, made_by}
 use Rattle.flex_base.specs.declared.operation.Op.{Op}
 use Rattle.flex_base.specs.declared.operation.Op.TheVariants as op
 
@@ -47,6 +47,27 @@ pieces (p ∷ ps) mask match within =
     let parts = eqb_parts p.0 (bit_and (spelled ps) (mask / 2 ^ p.0)) (bit_and p.1 (mask % 2 ^ p.0)) (match / 2 ^ p.0) (match % 2 ^ p.0) less (mod_below match (2 ^ p.0) (pow_pos p.0)) in
     let whole_mask = shr_split mask p.0 in
     let whole_match = shr_split match p.0 in
+    cc
+
+abbrev pub masked_piece : ℕ → ℕ → ℕ → ℕ
+masked_piece bits value mask = cond (eqb mask 0) 0 (cond (eqb mask (2 ^ bits - 1)) value (bit_and value mask))
+
+-- what a mask leaves of the pieces
+abbrev pub masked : List (ℕ × ℕ) → ℕ → ℕ
+masked [] mask = 0
+masked (p ∷ ps) mask = masked ps (mask / 2 ^ p.0) * 2 ^ p.0 + masked_piece p.0 p.1 (mask % 2 ^ p.0)
+
+masked_piece-and : (bits value mask : ℕ) → value < 2 ^ bits → masked_piece bits value mask ≡ bit_and value mask
+masked_piece-and bits value mask small =
+    grind (arith, nat_tests, and_le_r value 0, and_mask value bits, mod-eq_of_lt small)
+
+pub masked-and : (ps : List (ℕ × ℕ)) (mask : ℕ) → InRange ps → masked ps mask ≡ bit_and (spelled ps) mask
+masked-and [] mask within = refl
+masked-and (p ∷ ps) mask within =
+    let head = masked_piece-and p.0 p.1 (mask % 2 ^ p.0) within.0 in
+    let tail = masked-and ps (mask / 2 ^ p.0) within.1 in
+    let block = and_block p.0 (spelled ps) (mask / 2 ^ p.0) p.1 (mask % 2 ^ p.0) within.0 (mod_below mask (2 ^ p.0) (pow_pos p.0)) in
+    let whole_mask = shr_split mask p.0 in
     cc
 
 -- the operation of the first row that passes

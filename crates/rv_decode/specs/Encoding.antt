@@ -21,16 +21,22 @@ placed value from bits at = field from bits value * 2 ^ at
 -- Formats.
 abbrev pub r_type : ℕ → ℕ → ℕ → ℕ → ℕ → ℕ → ℕ
 r_type opcode funct3 funct7 rd rs1 rs2 = placed funct7 0 7 25 + placed rs2 0 5 20 + placed rs1 0 5 15 + placed funct3 0 3 12 + placed rd 0 5 7 + opcode
+
 abbrev pub i_type : ℕ → ℕ → ℕ → ℕ → ℕ → ℕ
 i_type opcode funct3 rd rs1 imm = placed imm 0 12 20 + placed rs1 0 5 15 + placed funct3 0 3 12 + placed rd 0 5 7 + opcode
+
 abbrev pub s_type : ℕ → ℕ → ℕ → ℕ → ℕ → ℕ
 s_type opcode funct3 rs1 rs2 imm = placed imm 5 7 25 + placed rs2 0 5 20 + placed rs1 0 5 15 + placed funct3 0 3 12 + placed imm 0 5 7 + opcode
+
 abbrev pub b_type : ℕ → ℕ → ℕ → ℕ → ℕ → ℕ
 b_type opcode funct3 rs1 rs2 imm = placed imm 12 1 31 + placed imm 5 6 25 + placed rs2 0 5 20 + placed rs1 0 5 15 + placed funct3 0 3 12 + placed imm 1 4 8 + placed imm 11 1 7 + opcode
+
 abbrev pub u_type : ℕ → ℕ → ℕ → ℕ
 u_type opcode rd imm = placed imm 12 20 12 + placed rd 0 5 7 + opcode
+
 abbrev pub j_type : ℕ → ℕ → ℕ → ℕ
 j_type opcode rd imm = placed imm 20 1 31 + placed imm 1 10 21 + placed imm 11 1 20 + placed imm 12 8 12 + placed rd 0 5 7 + opcode
+
 -- FENCE and FENCE.I keep the bits that they leave open
 abbrev pub fence_type : ℕ → ℕ → ℕ
 fence_type funct3 free = placed free 5 17 15 + placed funct3 0 3 12 + placed free 0 5 7 + 0x0f
@@ -47,6 +53,7 @@ branch_funct3 branch_op.Geu = 7
 -- the base 2 logarithm of a width in bytes
 abbrev pub width_code : ℕ → ℕ
 width_code width = if width == 1 then 0 else (if width == 2 then 1 else (if width == 4 then 2 else 3))
+
 abbrev pub load_funct3 : ℕ → Bool → ℕ
 load_funct3 width true = width_code width
 load_funct3 width false = width_code width + 4
@@ -58,6 +65,7 @@ alu_is_word alu.Sllw = true
 alu_is_word alu.Srlw = true
 alu_is_word alu.Sraw = true
 alu_is_word other = false
+
 abbrev pub alu_funct3 : AluOp → ℕ
 alu_funct3 alu.Add = 0
 alu_funct3 alu.Sub = 0
@@ -74,12 +82,14 @@ alu_funct3 alu.Subw = 0
 alu_funct3 alu.Sllw = 1
 alu_funct3 alu.Srlw = 5
 alu_funct3 alu.Sraw = 5
+
 abbrev pub alu_funct7 : AluOp → ℕ
 alu_funct7 alu.Sub = 0x20
 alu_funct7 alu.Sra = 0x20
 alu_funct7 alu.Subw = 0x20
 alu_funct7 alu.Sraw = 0x20
 alu_funct7 other = 0
+
 -- the immediate's 12 bits: those of a shift have the amount below and bit 10 for the arithmetic ones
 abbrev pub alu_immediate : AluOp → ℕ → ℕ
 alu_immediate alu.Sll imm = low 6 imm
@@ -97,6 +107,7 @@ mul_is_word mul.Divuw = true
 mul_is_word mul.Remw = true
 mul_is_word mul.Remuw = true
 mul_is_word other = false
+
 abbrev pub mul_funct3 : MulOp → ℕ
 mul_funct3 mul.Mul = 0
 mul_funct3 mul.Mulh = 1
@@ -133,12 +144,14 @@ csr_funct3 csr_op.Rci = 7
 
 abbrev pub bit : Bool → ℕ
 bit set = if set then 1 else 0
+
 abbrev pub atomic_funct7 : ℕ → Bool → Bool → ℕ
 atomic_funct7 funct5 aq rl = funct5 * 4 + bit aq * 2 + bit rl
 
 -- the opcode of an integer instruction, by whether it works on words
 abbrev pub immediate_opcode : Bool → ℕ
 immediate_opcode word = if word then 0x1b else 0x13
+
 abbrev pub register_opcode : Bool → ℕ
 register_opcode word = if word then 0x3b else 0x33
 

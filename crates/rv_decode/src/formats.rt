@@ -34,7 +34,11 @@ pub fn i_type(opcode: u32, funct3: u32, rd: u8, rs1: u8, imm: u64) -> u32
     requires { opcode < 128 }
     ensures { result ≡ spec.i_type opcode funct3 rd rs1 imm }
 {
-    placed(imm, 0, 12, 20) + register(rs1, 15) + placed(funct3 as u64, 0, 3, 12) + register(rd, 7) + opcode
+    placed(imm, 0, 12, 20)
+        + register(rs1, 15)
+        + placed(funct3 as u64, 0, 3, 12)
+        + register(rd, 7)
+        + opcode
 }
 
 pub fn s_type(opcode: u32, funct3: u32, rs1: u8, rs2: u8, imm: u64) -> u32
@@ -86,5 +90,8 @@ pub fn j_type(opcode: u32, rd: u8, imm: u64) -> u32
 pub fn fence_type(funct3: u32, free: u32) -> u32
     ensures { result ≡ spec.fence_type funct3 free }
 {
-    placed(free as u64, 5, 17, 15) + placed(funct3 as u64, 0, 3, 12) + placed(free as u64, 0, 5, 7) + 0x0f
+    placed(free as u64, 5, 17, 15)
+        + placed(funct3 as u64, 0, 3, 12)
+        + placed(free as u64, 0, 5, 7)
+        + 0x0f
 }

@@ -32,13 +32,20 @@ pub fn width_code(width: u8) -> u32
 pub fn load_funct3(width: u8, signed: bool) -> u32
     ensures { result ≡ spec.load_funct3 width signed }
 {
-    if signed { width_code(width) } else { width_code(width) + 4 }
+    if signed {
+        width_code(width)
+    } else {
+        width_code(width) + 4
+    }
 }
 
 pub fn alu_is_word(op: AluOp) -> bool
     ensures { result ≡ spec.alu_is_word op }
 {
-    matches!(op, AluOp::Addw | AluOp::Subw | AluOp::Sllw | AluOp::Srlw | AluOp::Sraw)
+    matches!(
+        op,
+        AluOp::Addw | AluOp::Subw | AluOp::Sllw | AluOp::Srlw | AluOp::Sraw
+    )
 }
 
 pub fn alu_funct3(op: AluOp) -> u32
@@ -81,7 +88,10 @@ pub fn alu_immediate(op: AluOp, imm: u64) -> u64
 pub fn mul_is_word(op: MulOp) -> bool
     ensures { result ≡ spec.mul_is_word op }
 {
-    matches!(op, MulOp::Mulw | MulOp::Divw | MulOp::Divuw | MulOp::Remw | MulOp::Remuw)
+    matches!(
+        op,
+        MulOp::Mulw | MulOp::Divw | MulOp::Divuw | MulOp::Remw | MulOp::Remuw
+    )
 }
 
 pub fn mul_funct3(op: MulOp) -> u32

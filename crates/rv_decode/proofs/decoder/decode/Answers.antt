@@ -1,7 +1,7 @@
 use Rattle.std.proofs.Common.{ℕ, List, [], ◌∷◌, ◌≡◌, Bool, false, true, refl, arith}
 use Rattle.std.proofs.Math.Path.{sym}
 use Rattle.std.proofs.lemmas.Bool.Decides.{nat_tests}
-use Rattle.flex_base.specs.Decoding.{Row, rows, fits_row}
+use Rattle.flex_base.specs.Decoding.{rows, fits_row}
 use Rattle.flex_base.specs.Word.{field}
 use Rattle.rv_decode.proofs.Opcodes.{unknown, one_of}
 use Rattle.rv_decode.proofs.decoder.decode.Goals as goal

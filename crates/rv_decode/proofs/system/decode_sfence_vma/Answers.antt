@@ -1,6 +1,5 @@
-use Rattle.std.proofs.Common.{ℕ, ◌≡◌, ◌≢◌, ◌<◌, ◌^◌, Bool, false, eqb, arith}
+use Rattle.std.proofs.Common.{ℕ, ◌≡◌, ◌≢◌, false, eqb, arith}
 use Rattle.std.proofs.lemmas.Bool.Decides.{nat_tests}
-use Rattle.std.proofs.lemmas.Grind.{common_steps}
 use Rattle.flex_base.specs.Decoding.{rows}
 use Rattle.flex_base.specs.Word.{field}
 use Rattle.rv_decode.proofs.Opcodes.{privileged}
