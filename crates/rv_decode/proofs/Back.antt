@@ -19,7 +19,7 @@ use Rattle.flex_base.specs.declared.operation.BranchOp.TheVariants as branch_op
 use Rattle.flex_base.specs.declared.operation.CsrOp.{CsrOp}
 use Rattle.flex_base.specs.declared.operation.CsrOp.TheVariants as csr_op
 use Rattle.rv_decode.proofs.Pieces.{spelled, InRange, masked, masked-and}
-use Rattle.rv_decode.specs.Encoding.{encoded, placed, i_type, s_type, b_type, u_type, j_type, branch_funct3, width_code, load_funct3, alu_is_word, alu_funct3, alu_funct7, alu_immediate, mul_is_word, mul_funct3, amo_funct5, csr_funct3, bit, immediate_opcode, register_opcode}
+use Rattle.rv_decode.specs.Encoding.{encoded, placed, i_type, s_type, b_type, u_type, j_type, branch_funct3, width_code, load_funct3, alu_immediate_opcode, alu_opcode, alu_funct3, alu_funct7, alu_immediate, mul_opcode, mul_funct3, amo_funct5, csr_funct3, bit}
 
 -- What each mask leaves of a word.
 
@@ -83,18 +83,22 @@ load_row width signed word small fits = omega (arith, asked word 0x707f (placed 
 store_row : (width : ℕ) → Back (row 0x0000707f (placed (width_code width) 0 3 12 + 0x23) (store width))
 store_row width word small fits = omega (arith, asked word 0x707f (placed (width_code width) 0 3 12 + 0x23) small fits, s_back word small)
 
-immediate_opcode_small : (word : Bool) → immediate_opcode word < 128
-immediate_opcode_small true = omega arith
-immediate_opcode_small false = omega arith
+alu_immediate_opcode_small : (o : AluOp) → alu_immediate_opcode o < 128
+alu_immediate_opcode_small alu.Add = omega arith
+alu_immediate_opcode_small other = omega arith
 
-register_opcode_small : (word : Bool) → register_opcode word < 128
-register_opcode_small true = omega arith
-register_opcode_small false = omega arith
+alu_opcode_small : (o : AluOp) → alu_opcode o < 128
+alu_opcode_small alu.Add = omega arith
+alu_opcode_small other = omega arith
+
+mul_opcode_small : (o : MulOp) → mul_opcode o < 128
+mul_opcode_small mul.Mul = omega arith
+mul_opcode_small other = omega arith
 
 -- an operation whose immediate is no shift amount
-immediate_row : (o : AluOp) → ((imm : ℕ) → alu_immediate o imm ≡ imm) → Back (row 0x0000707f (placed (alu_funct3 o) 0 3 12 + immediate_opcode (alu_is_word o)) (immediate o))
+immediate_row : (o : AluOp) → ((imm : ℕ) → alu_immediate o imm ≡ imm) → Back (row 0x0000707f (placed (alu_funct3 o) 0 3 12 + alu_immediate_opcode o) (immediate o))
 immediate_row o same word small fits =
-    rw (same (imm_i word)) (omega (arith, asked word 0x707f (placed (alu_funct3 o) 0 3 12 + immediate_opcode (alu_is_word o)) small fits, i_back word small, immediate_opcode_small (alu_is_word o)))
+    rw (same (imm_i word)) (omega (arith, asked word 0x707f (placed (alu_funct3 o) 0 3 12 + alu_immediate_opcode o) small fits, i_back word small, alu_immediate_opcode_small o))
 
 sll_row : Back (row 0xfc00707f 0x1013 (shift alu.Sll))
 sll_row word small fits = omega (arith, asked word 0xfc00707f 0x1013 small fits)
@@ -114,11 +118,11 @@ srlw_row word small fits = omega (arith, asked word 0xfe00707f 0x501b small fits
 sraw_row : Back (row 0xfe00707f 0x4000501b (shift_word alu.Sraw))
 sraw_row word small fits = omega (arith, asked word 0xfe00707f 0x4000501b small fits)
 
-register_row : (o : AluOp) → Back (row 0xfe00707f (placed (alu_funct7 o) 0 7 25 + placed (alu_funct3 o) 0 3 12 + register_opcode (alu_is_word o)) (register o))
-register_row o word small fits = omega (arith, asked word 0xfe00707f (placed (alu_funct7 o) 0 7 25 + placed (alu_funct3 o) 0 3 12 + register_opcode (alu_is_word o)) small fits, register_opcode_small (alu_is_word o))
+register_row : (o : AluOp) → Back (row 0xfe00707f (placed (alu_funct7 o) 0 7 25 + placed (alu_funct3 o) 0 3 12 + alu_opcode o) (register o))
+register_row o word small fits = omega (arith, asked word 0xfe00707f (placed (alu_funct7 o) 0 7 25 + placed (alu_funct3 o) 0 3 12 + alu_opcode o) small fits, alu_opcode_small o)
 
-muldiv_row : (o : MulOp) → Back (row 0xfe00707f (2 ^ 25 + placed (mul_funct3 o) 0 3 12 + register_opcode (mul_is_word o)) (muldiv o))
-muldiv_row o word small fits = omega (arith, asked word 0xfe00707f (2 ^ 25 + placed (mul_funct3 o) 0 3 12 + register_opcode (mul_is_word o)) small fits, register_opcode_small (mul_is_word o))
+muldiv_row : (o : MulOp) → Back (row 0xfe00707f (2 ^ 25 + placed (mul_funct3 o) 0 3 12 + mul_opcode o) (muldiv o))
+muldiv_row o word small fits = omega (arith, asked word 0xfe00707f (2 ^ 25 + placed (mul_funct3 o) 0 3 12 + mul_opcode o) small fits, mul_opcode_small o)
 
 -- the aq and rl bits
 bit-eqb : (n : ℕ) → n < 2 → bit (eqb n 1) ≡ n
@@ -132,14 +136,7 @@ sc_row width word small fits = omega (arith, asked word 0xf800707f (0x18000000 +
 
 amo_funct5_small : (o : AmoOp) → amo_funct5 o < 32
 amo_funct5_small amo.Swap = omega arith
-amo_funct5_small amo.Add = omega arith
-amo_funct5_small amo.Xor = omega arith
-amo_funct5_small amo.And = omega arith
-amo_funct5_small amo.Or = omega arith
-amo_funct5_small amo.Min = omega arith
-amo_funct5_small amo.Max = omega arith
-amo_funct5_small amo.Minu = omega arith
-amo_funct5_small amo.Maxu = omega arith
+amo_funct5_small other = omega arith
 
 atomic_row : (o : AmoOp) (width : ℕ) → Back (row 0xf800707f (placed (amo_funct5 o) 0 5 27 + placed (width_code width) 0 3 12 + 0x2f) (atomic o width))
 atomic_row o width word small fits = omega (arith, asked word 0xf800707f (placed (amo_funct5 o) 0 5 27 + placed (width_code width) 0 3 12 + 0x2f) small fits, bit-eqb (field 26 1 word) (omega arith), bit-eqb (field 25 1 word) (omega arith), amo_funct5_small o)

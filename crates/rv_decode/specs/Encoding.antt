@@ -41,7 +41,7 @@ j_type opcode rd imm = placed imm 20 1 31 + placed imm 1 10 21 + placed imm 11 1
 abbrev pub fence_type : ℕ → ℕ → ℕ
 fence_type funct3 free = placed free 5 17 15 + placed funct3 0 3 12 + placed free 0 5 7 + 0x0f
 
--- The numbers that tell the instructions of one opcode.
+-- The numbers that tell the instructions apart.
 abbrev pub branch_funct3 : BranchOp → ℕ
 branch_funct3 branch_op.Eq = 0
 branch_funct3 branch_op.Ne = 1
@@ -58,13 +58,22 @@ abbrev pub load_funct3 : ℕ → Bool → ℕ
 load_funct3 width true = width_code width
 load_funct3 width false = width_code width + 4
 
-abbrev pub alu_is_word : AluOp → Bool
-alu_is_word alu.Addw = true
-alu_is_word alu.Subw = true
-alu_is_word alu.Sllw = true
-alu_is_word alu.Srlw = true
-alu_is_word alu.Sraw = true
-alu_is_word other = false
+-- the word forms have opcodes of their own
+abbrev pub alu_immediate_opcode : AluOp → ℕ
+alu_immediate_opcode alu.Addw = 0x1b
+alu_immediate_opcode alu.Subw = 0x1b
+alu_immediate_opcode alu.Sllw = 0x1b
+alu_immediate_opcode alu.Srlw = 0x1b
+alu_immediate_opcode alu.Sraw = 0x1b
+alu_immediate_opcode other = 0x13
+
+abbrev pub alu_opcode : AluOp → ℕ
+alu_opcode alu.Addw = 0x3b
+alu_opcode alu.Subw = 0x3b
+alu_opcode alu.Sllw = 0x3b
+alu_opcode alu.Srlw = 0x3b
+alu_opcode alu.Sraw = 0x3b
+alu_opcode other = 0x33
 
 abbrev pub alu_funct3 : AluOp → ℕ
 alu_funct3 alu.Add = 0
@@ -100,13 +109,13 @@ alu_immediate alu.Srlw imm = low 5 imm
 alu_immediate alu.Sraw imm = low 5 imm + 0x400
 alu_immediate other imm = imm
 
-abbrev pub mul_is_word : MulOp → Bool
-mul_is_word mul.Mulw = true
-mul_is_word mul.Divw = true
-mul_is_word mul.Divuw = true
-mul_is_word mul.Remw = true
-mul_is_word mul.Remuw = true
-mul_is_word other = false
+abbrev pub mul_opcode : MulOp → ℕ
+mul_opcode mul.Mulw = 0x3b
+mul_opcode mul.Divw = 0x3b
+mul_opcode mul.Divuw = 0x3b
+mul_opcode mul.Remw = 0x3b
+mul_opcode mul.Remuw = 0x3b
+mul_opcode other = 0x33
 
 abbrev pub mul_funct3 : MulOp → ℕ
 mul_funct3 mul.Mul = 0
@@ -148,12 +157,9 @@ bit set = if set then 1 else 0
 abbrev pub atomic_funct7 : ℕ → Bool → Bool → ℕ
 atomic_funct7 funct5 aq rl = funct5 * 4 + bit aq * 2 + bit rl
 
--- the opcode of an integer instruction, by whether it works on words
-abbrev pub immediate_opcode : Bool → ℕ
-immediate_opcode word = if word then 0x1b else 0x13
-
-abbrev pub register_opcode : Bool → ℕ
-register_opcode word = if word then 0x3b else 0x33
+-- the atomics
+abbrev pub atomic_type : ℕ → ℕ → ℕ → ℕ → ℕ → Bool → Bool → ℕ
+atomic_type funct5 width rd rs1 rs2 aq rl = r_type 0x2f (width_code width) (atomic_funct7 funct5 aq rl) rd rs1 rs2
 
 -- the word that this operation is the decoding of, where there is one
 abbrev pub encoded : Op → ℕ
@@ -164,12 +170,12 @@ encoded (op.Jalr rd rs1 imm) = i_type 0x67 0 rd rs1 imm
 encoded (op.Branch compares rs1 rs2 imm) = b_type 0x63 (branch_funct3 compares) rs1 rs2 imm
 encoded (op.Load width signed rd rs1 imm) = i_type 0x03 (load_funct3 width signed) rd rs1 imm
 encoded (op.Store width rs1 rs2 imm) = s_type 0x23 (width_code width) rs1 rs2 imm
-encoded (op.AluImm computes rd rs1 imm) = i_type (immediate_opcode (alu_is_word computes)) (alu_funct3 computes) rd rs1 (alu_immediate computes imm)
-encoded (op.AluReg computes rd rs1 rs2) = r_type (register_opcode (alu_is_word computes)) (alu_funct3 computes) (alu_funct7 computes) rd rs1 rs2
-encoded (op.Muldiv computes rd rs1 rs2) = r_type (register_opcode (mul_is_word computes)) (mul_funct3 computes) 1 rd rs1 rs2
-encoded (op.Lr width rd rs1 aq rl) = r_type 0x2f (width_code width) (atomic_funct7 0x02 aq rl) rd rs1 0
-encoded (op.Sc width rd rs1 rs2 aq rl) = r_type 0x2f (width_code width) (atomic_funct7 0x03 aq rl) rd rs1 rs2
-encoded (op.Amo computes width rd rs1 rs2 aq rl) = r_type 0x2f (width_code width) (atomic_funct7 (amo_funct5 computes) aq rl) rd rs1 rs2
+encoded (op.AluImm computes rd rs1 imm) = i_type (alu_immediate_opcode computes) (alu_funct3 computes) rd rs1 (alu_immediate computes imm)
+encoded (op.AluReg computes rd rs1 rs2) = r_type (alu_opcode computes) (alu_funct3 computes) (alu_funct7 computes) rd rs1 rs2
+encoded (op.Muldiv computes rd rs1 rs2) = r_type (mul_opcode computes) (mul_funct3 computes) 1 rd rs1 rs2
+encoded (op.Lr width rd rs1 aq rl) = atomic_type 0x02 width rd rs1 0 aq rl
+encoded (op.Sc width rd rs1 rs2 aq rl) = atomic_type 0x03 width rd rs1 rs2 aq rl
+encoded (op.Amo computes width rd rs1 rs2 aq rl) = atomic_type (amo_funct5 computes) width rd rs1 rs2 aq rl
 encoded (op.Fence free) = fence_type 0 free
 encoded (op.FenceI free) = fence_type 1 free
 encoded (op.Csr does rd rs1 number) = i_type 0x73 (csr_funct3 does) rd rs1 number

@@ -1,13 +1,13 @@
 ghost use Rattle.std.specs.Prelude.{◌≡◌, ◌<◌, ◌^◌, ◌↔◌, ℕ, IsTrue};
 ghost use Rattle.flex_base.specs.Decoding.{decoded, IsDecoding};
+ghost use Rattle.rv_decode.specs.Encoding as spec;
 ghost use Rattle.rv_decode.specs.Encoding.{encoded};
 
 use crate::decoder::decode;
 use crate::formats::{b_type, fence_type, i_type, j_type, r_type, s_type, u_type};
 use crate::functs::{
-    alu_funct3, alu_funct7, alu_immediate, alu_is_word, amo_funct5, atomic_funct7, branch_funct3,
-    csr_funct3, immediate_opcode, load_funct3, mul_funct3, mul_is_word, register_opcode,
-    width_code,
+    alu_funct3, alu_funct7, alu_immediate, alu_immediate_opcode, alu_opcode, amo_funct5,
+    atomic_funct7, branch_funct3, csr_funct3, load_funct3, mul_funct3, mul_opcode, width_code,
 };
 use flex_base::Op;
 
@@ -30,6 +30,7 @@ pub fn is_op(op: &Op) -> bool
 }
 
 // The only word that may decode to this operation.
+#[rattlefmt::skip]
 fn word_of(op: &Op) -> u32
     ensures { result ≡ encoded op.now }
 {
@@ -39,99 +40,17 @@ fn word_of(op: &Op) -> u32
         Op::Jal { rd, imm } => j_type(0x6f, rd, imm),
         Op::Jalr { rd, rs1, imm } => i_type(0x67, 0, rd, rs1, imm),
         Op::Branch { op, rs1, rs2, imm } => b_type(0x63, branch_funct3(op), rs1, rs2, imm),
-        Op::Load {
-            width,
-            signed,
-            rd,
-            rs1,
-            imm,
-        } => i_type(0x03, load_funct3(width, signed), rd, rs1, imm),
-        Op::Store {
-            width,
-            rs1,
-            rs2,
-            imm,
-        } => s_type(0x23, width_code(width), rs1, rs2, imm),
-        Op::AluImm { op, rd, rs1, imm } => i_type(
-            immediate_opcode(alu_is_word(op)),
-            alu_funct3(op),
-            rd,
-            rs1,
-            alu_immediate(op, imm),
-        ),
-        Op::AluReg { op, rd, rs1, rs2 } => r_type(
-            register_opcode(alu_is_word(op)),
-            alu_funct3(op),
-            alu_funct7(op),
-            rd,
-            rs1,
-            rs2,
-        ),
-        Op::Muldiv { op, rd, rs1, rs2 } => r_type(
-            register_opcode(mul_is_word(op)),
-            mul_funct3(op),
-            1,
-            rd,
-            rs1,
-            rs2,
-        ),
-        Op::Lr {
-            width,
-            rd,
-            rs1,
-            aq,
-            rl,
-        } => r_type(
-            0x2f,
-            width_code(width),
-            atomic_funct7(0x02, aq, rl),
-            rd,
-            rs1,
-            0,
-        ),
-        Op::Sc {
-            width,
-            rd,
-            rs1,
-            rs2,
-            aq,
-            rl,
-        } => {
-            r_type(
-                0x2f,
-                width_code(width),
-                atomic_funct7(0x03, aq, rl),
-                rd,
-                rs1,
-                rs2,
-            )
-        }
-        Op::Amo {
-            op,
-            width,
-            rd,
-            rs1,
-            rs2,
-            aq,
-            rl,
-        } => {
-            r_type(
-                0x2f,
-                width_code(width),
-                atomic_funct7(amo_funct5(op), aq, rl),
-                rd,
-                rs1,
-                rs2,
-            )
-        }
+        Op::Load { width, signed, rd, rs1, imm } => i_type(0x03, load_funct3(width, signed), rd, rs1, imm),
+        Op::Store { width, rs1, rs2, imm } => s_type(0x23, width_code(width), rs1, rs2, imm),
+        Op::AluImm { op, rd, rs1, imm } => i_type(alu_immediate_opcode(op), alu_funct3(op), rd, rs1, alu_immediate(op, imm)),
+        Op::AluReg { op, rd, rs1, rs2 } => r_type(alu_opcode(op), alu_funct3(op), alu_funct7(op), rd, rs1, rs2),
+        Op::Muldiv { op, rd, rs1, rs2 } => r_type(mul_opcode(op), mul_funct3(op), 1, rd, rs1, rs2),
+        Op::Lr { width, rd, rs1, aq, rl } => atomic_type(0x02, width, rd, rs1, 0, aq, rl),
+        Op::Sc { width, rd, rs1, rs2, aq, rl } => atomic_type(0x03, width, rd, rs1, rs2, aq, rl),
+        Op::Amo { op, width, rd, rs1, rs2, aq, rl } => atomic_type(amo_funct5(op), width, rd, rs1, rs2, aq, rl),
         Op::Fence { free } => fence_type(0, free),
         Op::FenceI { free } => fence_type(1, free),
-        Op::Csr {
-            op,
-            rd,
-            rs1,
-            number,
-        } => i_type(0x73, csr_funct3(op), rd, rs1, number as u64),
+        Op::Csr { op, rd, rs1, number } => i_type(0x73, csr_funct3(op), rd, rs1, number as u64),
         Op::Ecall => 0x0000_0073,
         Op::Ebreak => 0x0010_0073,
         Op::Sret => 0x1020_0073,
@@ -140,4 +59,18 @@ fn word_of(op: &Op) -> u32
         Op::SfenceVma { rs1, rs2 } => r_type(0x73, 0, 0x09, 0, rs1, rs2),
         Op::Illegal(word) => word,
     }
+}
+
+fn atomic_type(funct5: u32, width: u8, rd: u8, rs1: u8, rs2: u8, aq: bool, rl: bool) -> u32
+    requires { funct5 < 32 }
+    ensures { result ≡ spec.atomic_type funct5 width rd rs1 rs2 aq rl }
+{
+    r_type(
+        0x2f,
+        width_code(width),
+        atomic_funct7(funct5, aq, rl),
+        rd,
+        rs1,
+        rs2,
+    )
 }

@@ -1,4 +1,4 @@
-// The numbers that tell the instructions of one opcode: funct3, funct5, funct7.
+// The numbers that tell the instructions apart: opcode, funct3, funct5, funct7.
 ghost use Rattle.std.specs.Prelude.{◌≡◌, ◌<◌};
 ghost use Rattle.rv_decode.specs.Encoding as spec;
 
@@ -39,13 +39,24 @@ pub fn load_funct3(width: u8, signed: bool) -> u32
     }
 }
 
-pub fn alu_is_word(op: AluOp) -> bool
-    ensures { result ≡ spec.alu_is_word op }
+// The opcode with an immediate: the word forms have one of their own.
+pub fn alu_immediate_opcode(op: AluOp) -> u32
+    ensures { result ≡ spec.alu_immediate_opcode op }
 {
-    matches!(
-        op,
-        AluOp::Addw | AluOp::Subw | AluOp::Sllw | AluOp::Srlw | AluOp::Sraw
-    )
+    match op {
+        AluOp::Addw | AluOp::Subw | AluOp::Sllw | AluOp::Srlw | AluOp::Sraw => 0x1b,
+        _ => 0x13,
+    }
+}
+
+// The opcode between registers.
+pub fn alu_opcode(op: AluOp) -> u32
+    ensures { result ≡ spec.alu_opcode op }
+{
+    match op {
+        AluOp::Addw | AluOp::Subw | AluOp::Sllw | AluOp::Srlw | AluOp::Sraw => 0x3b,
+        _ => 0x33,
+    }
 }
 
 pub fn alu_funct3(op: AluOp) -> u32
@@ -85,13 +96,13 @@ pub fn alu_immediate(op: AluOp, imm: u64) -> u64
     }
 }
 
-pub fn mul_is_word(op: MulOp) -> bool
-    ensures { result ≡ spec.mul_is_word op }
+pub fn mul_opcode(op: MulOp) -> u32
+    ensures { result ≡ spec.mul_opcode op }
 {
-    matches!(
-        op,
-        MulOp::Mulw | MulOp::Divw | MulOp::Divuw | MulOp::Remw | MulOp::Remuw
-    )
+    match op {
+        MulOp::Mulw | MulOp::Divw | MulOp::Divuw | MulOp::Remw | MulOp::Remuw => 0x3b,
+        _ => 0x33,
+    }
 }
 
 pub fn mul_funct3(op: MulOp) -> u32
@@ -143,18 +154,4 @@ pub fn atomic_funct7(funct5: u32, aq: bool, rl: bool) -> u32
     ensures { result ≡ spec.atomic_funct7 funct5 aq rl }
 {
     funct5 * 4 + aq as u32 * 2 + rl as u32
-}
-
-// The opcode of an integer instruction with an immediate, by whether it works on words.
-pub fn immediate_opcode(word: bool) -> u32
-    ensures { result ≡ spec.immediate_opcode word }
-{
-    if word { 0x1b } else { 0x13 }
-}
-
-// The opcode of an integer instruction between registers, by whether it works on words.
-pub fn register_opcode(word: bool) -> u32
-    ensures { result ≡ spec.register_opcode word }
-{
-    if word { 0x3b } else { 0x33 }
 }

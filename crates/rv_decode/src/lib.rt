@@ -16,3 +16,6 @@ mod word;
 pub use class::class_of;
 pub use decoder::decode;
 pub use encoder::{encode, is_op};
+
+#[cfg(test)]
+mod tests;
