@@ -2,9 +2,10 @@ use super::*;
 use flex_base::{AluOp, AmoOp, BranchOp, Class, CsrOp, MulOp, Op};
 
 // Each row of the listing at least once, as an assembler spells it, and words that are no instruction.
+
 #[rattlefmt::skip]
 #[test]
-fn words_and_operations(rt: HostRuntime) {
+fn jumps_loads_and_stores(rt: HostRuntime) {
     let cases = [
         (0x12345537, Op::Lui { rd: 10, imm: 0x1234_5000 }), // lui a0, 0x12345
         (0x800000b7, Op::Lui { rd: 1, imm: 0xffff_ffff_8000_0000 }), // lui ra, 0x80000
@@ -32,6 +33,18 @@ fn words_and_operations(rt: HostRuntime) {
         (0xfcb11e23, Op::Store { width: 2, rs1: 2, rs2: 11, imm: 0xffff_ffff_ffff_ffdc }), // sh a1, -36(sp)
         (0xfcb12e23, Op::Store { width: 4, rs1: 2, rs2: 11, imm: 0xffff_ffff_ffff_ffdc }), // sw a1, -36(sp)
         (0xfcb13e23, Op::Store { width: 8, rs1: 2, rs2: 11, imm: 0xffff_ffff_ffff_ffdc }), // sd a1, -36(sp)
+    ];
+    for (word, op) in cases {
+        assert_eq!(rt; decode(word), op);
+        assert_eq!(rt; encode(&decode(word)), word);
+        assert!(rt; is_op(&op));
+    }
+}
+
+#[rattlefmt::skip]
+#[test]
+fn integer_operations(rt: HostRuntime) {
+    let cases = [
         (0x00700293, Op::AluImm { op: AluOp::Add, rd: 5, rs1: 0, imm: 7 }), // addi t0, zero, 7
         (0xfff58513, Op::AluImm { op: AluOp::Add, rd: 10, rs1: 11, imm: 0xffff_ffff_ffff_ffff }), // addi a0, a1, -1
         (0xfff5a513, Op::AluImm { op: AluOp::Slt, rd: 10, rs1: 11, imm: 0xffff_ffff_ffff_ffff }), // slti a0, a1, -1
@@ -61,6 +74,18 @@ fn words_and_operations(rt: HostRuntime) {
         (0x00c5953b, Op::AluReg { op: AluOp::Sllw, rd: 10, rs1: 11, rs2: 12 }), // sllw a0, a1, a2
         (0x00c5d53b, Op::AluReg { op: AluOp::Srlw, rd: 10, rs1: 11, rs2: 12 }), // srlw a0, a1, a2
         (0x40c5d53b, Op::AluReg { op: AluOp::Sraw, rd: 10, rs1: 11, rs2: 12 }), // sraw a0, a1, a2
+    ];
+    for (word, op) in cases {
+        assert_eq!(rt; decode(word), op);
+        assert_eq!(rt; encode(&decode(word)), word);
+        assert!(rt; is_op(&op));
+    }
+}
+
+#[rattlefmt::skip]
+#[test]
+fn multiplications_and_atomics(rt: HostRuntime) {
+    let cases = [
         (0x02c58533, Op::Muldiv { op: MulOp::Mul, rd: 10, rs1: 11, rs2: 12 }), // mul a0, a1, a2
         (0x02c59533, Op::Muldiv { op: MulOp::Mulh, rd: 10, rs1: 11, rs2: 12 }), // mulh a0, a1, a2
         (0x02c5a533, Op::Muldiv { op: MulOp::Mulhsu, rd: 10, rs1: 11, rs2: 12 }), // mulhsu a0, a1, a2
@@ -89,6 +114,18 @@ fn words_and_operations(rt: HostRuntime) {
         (0xe6b6252f, Op::Amo { op: AmoOp::Maxu, width: 4, rd: 10, rs1: 12, rs2: 11, aq: true, rl: true }), // amomaxu.w.aqrl a0, a1, (a2)
         (0x08b6352f, Op::Amo { op: AmoOp::Swap, width: 8, rd: 10, rs1: 12, rs2: 11, aq: false, rl: false }), // amoswap.d a0, a1, (a2)
         (0xe0b6352f, Op::Amo { op: AmoOp::Maxu, width: 8, rd: 10, rs1: 12, rs2: 11, aq: false, rl: false }), // amomaxu.d a0, a1, (a2)
+    ];
+    for (word, op) in cases {
+        assert_eq!(rt; decode(word), op);
+        assert_eq!(rt; encode(&decode(word)), word);
+        assert!(rt; is_op(&op));
+    }
+}
+
+#[rattlefmt::skip]
+#[test]
+fn system_instructions(rt: HostRuntime) {
+    let cases = [
         (0x0310000f, Op::Fence { free: 0xc400 }), // fence rw, w
         (0x0000100f, Op::FenceI { free: 0 }), // fence.i
         (0x30009073, Op::Csr { op: CsrOp::Rw, rd: 0, rs1: 1, number: 0x300 }), // csrrw zero, mstatus, ra
@@ -105,30 +142,41 @@ fn words_and_operations(rt: HostRuntime) {
         (0x12b50073, Op::SfenceVma { rs1: 10, rs2: 11 }), // sfence.vma a0, a1
         (0x8330808f, Op::Fence { free: 0x20_cc21 }), // fence.tso, with rd and rs1
         (0x0000108f, Op::FenceI { free: 1 }), // fence.i, with rd
-        (0x00000000, Op::Illegal(0x00000000)), // all zeros
-        (0xffffffff, Op::Illegal(0xffffffff)), // all ones
-        (0x1010a12f, Op::Illegal(0x1010a12f)), // lr.w with rs2
-        (0x04051513, Op::Illegal(0x04051513)), // slli by 64
-        (0x0205151b, Op::Illegal(0x0205151b)), // slliw by 32
-        (0x44055513, Op::Illegal(0x44055513)), // srai by 64
-        (0x00001067, Op::Illegal(0x00001067)), // jalr with funct3 1
-        (0x00002063, Op::Illegal(0x00002063)), // a branch with funct3 2
-        (0x00007003, Op::Illegal(0x00007003)), // a load with funct3 7
-        (0x00004023, Op::Illegal(0x00004023)), // a store with funct3 4
-        (0x0000200f, Op::Illegal(0x0000200f)), // a fence with funct3 2
-        (0x40001033, Op::Illegal(0x40001033)), // sll with funct7 0x20
-        (0x0200103b, Op::Illegal(0x0200103b)), // a word multiplication with funct3 1
-        (0x1000102f, Op::Illegal(0x1000102f)), // an atomic of 2 bytes
-        (0x2800202f, Op::Illegal(0x2800202f)), // an atomic with funct5 5
-        (0x00004073, Op::Illegal(0x00004073)), // a system instruction with funct3 4
-        (0x00200073, Op::Illegal(0x00200073)), // uret
-        (0x000000f3, Op::Illegal(0x000000f3)), // ecall with rd
-        (0x120000f3, Op::Illegal(0x120000f3)), // sfence.vma with rd
     ];
     for (word, op) in cases {
         assert_eq!(rt; decode(word), op);
         assert_eq!(rt; encode(&decode(word)), word);
         assert!(rt; is_op(&op));
+    }
+}
+
+#[rattlefmt::skip]
+#[test]
+fn illegal_words(rt: HostRuntime) {
+    let words = [
+        0x00000000, // all zeros
+        0xffffffff, // all ones
+        0x1010a12f, // lr.w with rs2
+        0x04051513, // slli by 64
+        0x0205151b, // slliw by 32
+        0x44055513, // srai by 64
+        0x00001067, // jalr with funct3 1
+        0x00002063, // a branch with funct3 2
+        0x00007003, // a load with funct3 7
+        0x00004023, // a store with funct3 4
+        0x0000200f, // a fence with funct3 2
+        0x40001033, // sll with funct7 0x20
+        0x0200103b, // a word multiplication with funct3 1
+        0x1000102f, // an atomic of 2 bytes
+        0x2800202f, // an atomic with funct5 5
+        0x00004073, // a system instruction with funct3 4
+        0x00200073, // uret
+        0x000000f3, // ecall with rd
+        0x120000f3, // sfence.vma with rd
+    ];
+    for word in words {
+        assert_eq!(rt; decode(word), Op::Illegal(word));
+        assert_eq!(rt; encode(&decode(word)), word);
     }
 }
 
