@@ -1,5 +1,5 @@
 -- What atomic memory operations compute (Volume I, "A").
-use Rattle.std.specs.Prelude.{ℕ, ◌+◌, ◌*◌, ◌%◌, ◌/◌, ◌^◌, Bool, nat_lt, if◌then◌else◌, bit_and, bit_or, bit_xor}
+use Rattle.std.specs.Prelude.{ℕ, ◌+◌, ◌*◌, ◌/◌, ◌^◌, Bool, nat_lt, if◌then◌else◌, bit_and, bit_or, bit_xor}
 use Rattle.flex_base.specs.Word.{low}
 use Rattle.flex_base.specs.declared.operation.AmoOp.{AmoOp}
 use Rattle.flex_base.specs.declared.operation.AmoOp.TheVariants as amo

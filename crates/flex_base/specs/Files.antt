@@ -1,5 +1,5 @@
 -- What the outside holds and is given.
-use Rattle.std.specs.Prelude.{◌≡◌, ◌≢◌, ℕ, ◌-◌, ◌^◌, ◌<◌, ◌≤◌, ◌⊎◌, Bool, List, [], ◌++◌, length, take, Option, None, Some, unwrap_or, Result, Ok, Err}
+use Rattle.std.specs.Prelude.{◌≡◌, ◌≢◌, ℕ, ◌-◌, ◌^◌, ◌<◌, ◌≤◌, ◌⊎◌, List, [], ◌++◌, length, take, Option, None, Some, unwrap_or, Result, Ok, Err}
 use Rattle.flex_base.specs.declared.outer.TakeFault.{TakeFault}
 use Rattle.flex_base.specs.declared.outer.TakeFault.TheVariants as fault
 

@@ -1,5 +1,5 @@
 -- Memory: what a read gives follows from the image and the list of the accesses so far (Volume I, "Memory Model").
-use Rattle.std.specs.Prelude.{◌≡◌, ℕ, ◌+◌, ◌-◌, ◌*◌, ◌/◌, ◌%◌, ◌^◌, zero, suc, Bool, true, false, ◌&&◌, not, ◌==◌, nat_le, nat_lt, if◌then◌else◌, List, [], ◌∷◌, length, fold, slice_index, Option, None, Some, is_some}
+use Rattle.std.specs.Prelude.{ℕ, ◌+◌, ◌-◌, ◌*◌, ◌/◌, ◌%◌, ◌^◌, zero, suc, Bool, true, false, ◌&&◌, not, ◌==◌, nat_le, nat_lt, if◌then◌else◌, List, length, fold, slice_index, Option, None, Some}
 use Rattle.flex_base.specs.Arithmetic.{amo_of}
 use Rattle.flex_base.specs.Loaded.{Loaded}
 use Rattle.flex_base.specs.declared.access.Access.{Access}

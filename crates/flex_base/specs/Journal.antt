@@ -1,11 +1,10 @@
 -- Journals: the events of a split run, handovers among them.
-use Rattle.std.specs.Prelude.{◌≡◌, ℕ, Bool, true, false, not, ◌==◌, if◌then◌else◌, List, [], ◌∷◌, map, filter, length}
+use Rattle.std.specs.Prelude.{◌≡◌, ℕ, Bool, true, false, not, ◌==◌, if◌then◌else◌, List, map, filter, length}
 use Rattle.std.specs.List.{filter_map, range_with_len}
 use Rattle.std.specs.Prelude.{Option, None, Some}
 use Rattle.flex_base.specs.Setup.{Setup}
 use Rattle.flex_base.specs.Unsplit.{Made, does, unsplit}
 use Rattle.flex_base.specs.Split.{Plan, split}
-use Rattle.flex_base.specs.declared.access.Access.{Access}
 use Rattle.flex_base.specs.declared.access.Access.TheVariants as acc
 use Rattle.flex_base.specs.declared.engine.Engine.{Engine}
 use Rattle.flex_base.specs.declared.event.Event.{Event}
@@ -46,6 +45,10 @@ abbrev pub byte_of : What → Option ℕ
 byte_of (what.Acc (acc.DevWrite address width value) reply) = if address == 0x10000000 then Some value else None
 byte_of other = None
 
+-- the bytes that these events transmit
+unfoldable pub sent : List Made → List ℕ
+sent made = filter_map (λ (m : Made). byte_of m.what) made
+
 -- the bytes written to the console
-unfoldable pub console : List Event → List ℕ
-console journal = filter_map (λ (e : Event). byte_of e.what) journal
+abbrev pub console : List Event → List ℕ
+console journal = sent (strip journal)

@@ -3,12 +3,15 @@ pub mod Limits
 pub mod Place
 pub mod Loaded
 pub mod Files
+pub mod InMemory
+pub mod Memory
 pub mod Classes
 pub mod Decoding
 pub mod Arithmetic
 pub mod State
 pub mod Setup
 pub mod Story
+pub mod Forms
 pub mod FlatMemory
 pub mod Unsplit
 pub mod Rounds

@@ -1,5 +1,5 @@
 -- The limits of a run.
-use Rattle.std.specs.Prelude.{ℕ, ◌*◌, ◌/◌, ◌^◌, Bool, ◌&&◌, nat_le}
+use Rattle.std.specs.Prelude.{ℕ, ◌*◌, ◌^◌, Bool, ◌&&◌, nat_le}
 use Rattle.flex_base.specs.Word.{is_multiple}
 use Rattle.flex_base.specs.declared.settings.Settings.{Settings}
 

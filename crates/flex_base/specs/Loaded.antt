@@ -1,5 +1,5 @@
 -- An image as contracts see it.
-use Rattle.std.specs.Prelude.{ℕ, ◌-◌, Bool, ◌&&◌, ◌||◌, ◌==◌, if◌then◌else◌, List, length, fold, slice_index}
+use Rattle.std.specs.Prelude.{ℕ, Bool, ◌&&◌, ◌||◌, ◌==◌, List, length}
 use Rattle.std.specs.List.{list_all}
 use Rattle.flex_base.specs.Word.{is_multiple}
 use Rattle.flex_base.specs.Place.{in_ram}

@@ -1,23 +1,23 @@
 -- The rounds: the harts in rising order, again and again, each up to and including its next end.
 use Rattle.std.specs.Prelude.{ℕ, ◌+◌, ◌*◌, zero, suc, if◌then◌else◌, List, [], ◌∷◌, ◌++◌}
 use Rattle.flex_base.specs.Setup.{Setup}
-use Rattle.flex_base.specs.Story.{Want, Asks, Ends, IsOver, IsLater, Story, Says, Closes}
+use Rattle.flex_base.specs.Story.{Story, Says, Closes, StaysOver, ComesLater}
 use Rattle.flex_base.specs.Unsplit.{Machine, story_of, reply_to, step, reach, reach_from, has_ended, hart_numbers}
-
--- the last name of a turn: none where the hart has nothing left to do
-abbrev pub last_of_turn : ℕ → Want → List ℕ
-last_of_turn h IsOver = []
-last_of_turn h other = h ∷ []
 
 -- the hart's name, once for each event up to and including its next end
 abbrev pub turn : Setup → Machine → ℕ → Story → List ℕ
 turn setup u h (Says access next) = h ∷ turn setup (step setup u h) h (next (reply_to setup u h access))
-turn setup u h (Closes want) = last_of_turn h want
+turn setup u h (Closes part after) = h ∷ []
+turn setup u h StaysOver = []
+turn setup u h ComesLater = h ∷ []
+
+abbrev pub turn_of : Setup → Machine → ℕ → List ℕ
+turn_of setup u h = turn setup u h (story_of setup u h)
 
 -- the turns of these harts, one after another, until the run has ended
 abbrev pub turns : Setup → Machine → List ℕ → List ℕ
 turns setup u [] = []
-turns setup u (h ∷ harts) = if has_ended setup u then [] else turn setup u h (story_of setup u h) ++ turns setup (reach_from setup u (turn setup u h (story_of setup u h))) harts
+turns setup u (h ∷ harts) = if has_ended setup u then [] else turn_of setup u h ++ turns setup (reach_from setup u (turn_of setup u h)) harts
 
 unfoldable pub repeated : ℕ → List ℕ → List ℕ
 repeated zero names = []

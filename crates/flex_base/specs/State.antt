@@ -1,5 +1,5 @@
 -- A hart's state at the start of an instruction (Volume I, "Programmers' Model"; Volume II, "Machine-Level ISA").
-use Rattle.std.specs.Prelude.{◌≡◌, ℕ, ◌≤◌, Bool, true, false, ◌==◌, if◌then◌else◌, List, [], ◌∷◌, Option, None, MatchOption, replicate, slice_index, slice_set}
+use Rattle.std.specs.Prelude.{◌≡◌, ℕ, ◌≤◌, Bool, true, false, ◌==◌, if◌then◌else◌, List, Option, None, MatchOption, replicate, slice_index, slice_set}
 use Rattle.flex_base.specs.Word.{is_multiple}
 use Rattle.flex_base.specs.Place.{in_ram}
 use Rattle.flex_base.specs.declared.hart.Mode.{Mode}

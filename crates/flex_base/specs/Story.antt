@@ -1,5 +1,5 @@
 -- The story of one instruction: what a hart does, from the state at the start and the replies so far.
-use Rattle.std.specs.Prelude.{◌≡◌, ℕ, ◌+◌, ◌%◌, Bool, true, false, ◌&&◌, ◌==◌, nat_lt, if◌then◌else◌, List, [], ◌∷◌, ◌++◌}
+use Rattle.std.specs.Prelude.{ℕ, ◌+◌, Bool, ◌&&◌, ◌==◌, nat_lt, if◌then◌else◌, List, [], ◌∷◌}
 use Rattle.flex_base.specs.Word.{wrap, is_multiple}
 use Rattle.flex_base.specs.Place.{in_ram}
 use Rattle.flex_base.specs.Decoding.{decoded}
@@ -22,20 +22,22 @@ pub data Want : Type 0 where
   IsOver : Want
   IsLater : Want
 
--- what a hart does from here on: an access and then, by its reply, what follows; or what stands at the end
+-- what a hart does from here on: an access and then, by its reply, what follows; an end; nothing any more; or what comes later
 pub data Story : Type 0 where
   Says : Access → (Reply → Story) → Story
-  Closes : Want → Story
+  Closes : EndPart → State → Story
+  StaysOver : Story
+  ComesLater : Story
 
 -- an end that writes a register (0 for none) and goes on at `next`; each 64th end makes a pulse due
 abbrev pub ends : State → Class → ℕ → ℕ → ℕ → Story
-ends a class next rd value = Closes (Ends
+ends a class next rd value = Closes
     (record { class = class; pc = a.pc; next = next; first = rd; second = if rd == 0 then 0 else value })
-    (record a { pc = next; x = set_reg a.x rd value; ends = a.ends + 1; due = is_multiple (a.ends + 1) 64 }))
+    (record a { pc = next; x = set_reg a.x rd value; ends = a.ends + 1; due = is_multiple (a.ends + 1) 64 })
 
 -- an exception of this cause and value; traps come later
 abbrev pub traps : State → ℕ → ℕ → Story
-traps a cause tval = Closes IsLater
+traps a cause tval = ComesLater
 
 -- a jump to a misaligned address is an exception of the jump itself (Volume I, "Control Transfer Instructions")
 abbrev pub jumps : State → ℕ → ℕ → Story
@@ -45,7 +47,7 @@ jumps a target rd = if is_multiple target 4 then ends a class.Jump target rd (wr
 abbrev pub works : Setup → State → Op → Story
 works setup a (op.AluImm alu.Add rd rs1 imm) = ends a class.Alu (wrap (a.pc + 4)) rd (wrap (reg a rs1 + imm))
 works setup a (op.Jal rd imm) = jumps a (wrap (a.pc + imm)) rd
-works setup a other = Closes IsLater
+works setup a other = ComesLater
 
 -- the fetch; in mode M no address is translated
 abbrev pub fetches : Setup → State → Story
@@ -60,24 +62,28 @@ is_tick a = nat_lt 0 a.ends && is_multiple a.ends 64
 -- the pulse, where one is due; its lines count from here on
 abbrev pub pulses : Setup → State → Story
 pulses setup a = if a.due
-    then Says (acc.Pulse (is_tick a)) (λ reply. if reply.stop then Closes IsOver else fetches setup (record a { lines = reply.lines }))
+    then Says (acc.Pulse (is_tick a)) (λ reply. if reply.stop then StaysOver else fetches setup (record a { lines = reply.lines }))
     else fetches setup a
 
 -- the whole instruction; a hart that has spent its budget retires
 abbrev pub story : Setup → State → Story
 story setup a = if a.ends == setup.budget
-    then Says acc.Retire (λ reply. Closes IsOver)
+    then Says acc.Retire (λ reply. StaysOver)
     else pulses setup a
 
 -- where the replies lead
 abbrev pub goes : Story → List Reply → Story
 goes s [] = s
 goes (Says access next) (reply ∷ replies) = goes (next reply) replies
-goes (Closes want) (reply ∷ replies) = Closes want
+goes (Closes part after) (reply ∷ replies) = Closes part after
+goes StaysOver (reply ∷ replies) = StaysOver
+goes ComesLater (reply ∷ replies) = ComesLater
 
 abbrev pub want : Story → Want
 want (Says access next) = Asks access
-want (Closes w) = w
+want (Closes part after) = Ends part after
+want StaysOver = IsOver
+want ComesLater = IsLater
 
 -- what a hart wants whose instruction began in this state and has had these replies
 abbrev pub ask : Setup → State → List Reply → Want

@@ -3,7 +3,7 @@ use Rattle.std.specs.Prelude.{ℕ, Bool, true, false, ◌&&◌, ◌==◌, nat_lt
 use Rattle.std.specs.List.{list_all, list_any, range_with_len}
 use Rattle.flex_base.specs.Setup.{Setup}
 use Rattle.flex_base.specs.State.{State, start}
-use Rattle.flex_base.specs.Story.{Want, Asks, Ends, IsOver, IsLater, Story, story, goes, want}
+use Rattle.flex_base.specs.Story.{Want, Asks, Ends, IsOver, Story, story, goes, want}
 use Rattle.flex_base.specs.FlatMemory.{Done, is_ram_access, flat, reply_with}
 use Rattle.flex_base.specs.declared.access.Access.{Access}
 use Rattle.flex_base.specs.declared.access.Access.TheVariants as acc

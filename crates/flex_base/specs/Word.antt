@@ -1,5 +1,5 @@
 -- Words of 64 bits, and the fields of a word.
-use Rattle.std.specs.Prelude.{ℕ, ◌+◌, ◌-◌, ◌*◌, ◌/◌, ◌%◌, ◌^◌, Bool, ◌==◌, nat_lt, if◌then◌else◌}
+use Rattle.std.specs.Prelude.{ℕ, ◌+◌, ◌-◌, ◌/◌, ◌%◌, ◌^◌, Bool, ◌==◌, nat_lt, if◌then◌else◌}
 
 -- a sum or a difference as a register holds it (Volume I, "Integer Computational Instructions": overflow is ignored)
 abbrev pub wrap : ℕ → ℕ

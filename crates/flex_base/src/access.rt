@@ -11,23 +11,57 @@ use crate::operation::AmoOp;
 #[derive(Clone, Copy, Debug, PartialEq, Eq)]
 pub enum Access {
     /// Reads the 4 bytes of an instruction.
-    Fetch { address: u64 },
+    Fetch {
+        address: u64,
+    },
     /// Reads the 8 bytes of a page table entry.
-    Pte { address: u64 },
-    Read { address: u64, width: u8 },
-    Write { address: u64, width: u8, value: u64 },
+    Pte {
+        address: u64,
+    },
+    Read {
+        address: u64,
+        width: u8,
+    },
+    Write {
+        address: u64,
+        width: u8,
+        value: u64,
+    },
     /// Load-reserved.
-    Lr { address: u64, width: u8 },
+    Lr {
+        address: u64,
+        width: u8,
+    },
     /// Store-conditional.
-    Sc { address: u64, width: u8, value: u64 },
+    Sc {
+        address: u64,
+        width: u8,
+        value: u64,
+    },
     /// An atomic memory operation. The value is that of the source register.
-    Amo { op: AmoOp, address: u64, width: u8, value: u64 },
-    DevRead { address: u64, width: u8 },
-    DevWrite { address: u64, width: u8, value: u64 },
+    Amo {
+        op: AmoOp,
+        address: u64,
+        width: u8,
+        value: u64,
+    },
+    DevRead {
+        address: u64,
+        width: u8,
+    },
+    DevWrite {
+        address: u64,
+        width: u8,
+        value: u64,
+    },
     /// Reads the hart's interrupt lines. With `tick`, time goes on by one.
-    Pulse { tick: bool },
+    Pulse {
+        tick: bool,
+    },
     /// Waits for an interrupt that is enabled in `mie`.
-    Wait { mie: u64 },
+    Wait {
+        mie: u64,
+    },
     /// The hart has spent its budget.
     Retire,
     /// Reads `mtime`.

@@ -7,15 +7,20 @@
 
 mod access;
 mod class;
+mod counts;
 mod engine;
 mod event;
 mod gate;
 mod hart;
 mod image;
 mod line;
+mod memory_files;
+mod memory_outer;
 mod operation;
 mod outer;
+mod real_outer;
 mod settings;
+mod steady_outer;
 mod text;
 
 pub use access::{Access, Reply, access_class};
@@ -26,7 +31,13 @@ pub use gate::{Gate, OpenGate, Point};
 pub use hart::{HartId, Mode};
 pub use image::Image;
 pub use line::Line;
+pub use memory_outer::MemoryOuter;
 pub use operation::{AluOp, AmoOp, BranchOp, CsrOp, MulOp, Op};
 pub use outer::{Failed, Outer, TakeFault};
+pub use real_outer::RealOuter;
 pub use settings::{Layout, Place, RAM_BASE, Settings};
+pub use steady_outer::SteadyOuter;
 pub use text::Text;
+
+#[cfg(test)]
+mod tests;

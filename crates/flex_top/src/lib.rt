@@ -1,13 +1,21 @@
-// A library with one function.
+//! The commands but `run`: the words, the image, a run on one thread, the trace text and its file.
+//!
+//! `flex_top` does what the words ask for, and tells by its status what came of it. `solo` plays
+//! one hart over a raw image and writes the trace of the run.
 #![tactic(auto)]
 
-ghost use Rattle.std.specs.Prelude.{◌≡◌};
-ghost use Rattle.flex_top.specs.Echo.{echo_of};
+mod memory;
+mod pieces;
+mod player;
+mod prepared;
+mod raw;
+mod solo;
+mod split_run;
+mod status;
+mod text;
+mod top;
+mod trace_file;
+mod words;
 
-// The `ensures` clause is the contract: what `echo` returns is `echo_of` of its argument, a definition
-// in `specs/Echo.antt`, which a caller's clause can cite too.
-pub fn echo(x: usize) -> usize
-    ensures { result ≡ echo_of x }
-{
-    x
-}
+pub use status::{ImageFault, Status, status_code, status_text};
+pub use top::flex_top;

@@ -1,1 +1,3 @@
 pub mod StandsFor
+pub mod Progressing
+pub mod Telling

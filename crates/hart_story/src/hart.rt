@@ -21,6 +21,10 @@ impl Hart {
     {
         let mut x = [0; 32];
         x[10] = hart.0 as u64;
-        Hart { pc: entry, x, ends: 0 }
+        Hart {
+            pc: entry,
+            x,
+            ends: 0,
+        }
     }
 }

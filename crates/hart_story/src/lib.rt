@@ -3,5 +3,10 @@
 #![tactic(auto)]
 
 mod hart;
+mod progress;
+mod story;
+mod work;
 
 pub use hart::Hart;
+pub use progress::{Need, Progress};
+pub use story::{finish, give, need};

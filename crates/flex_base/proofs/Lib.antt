@@ -1,0 +1,6 @@
+pub mod Places
+pub mod Stories
+pub mod Machines
+pub mod Orders
+pub mod Turns
+pub mod Quiet

@@ -1,0 +1,175 @@
+-- A run's order is that of its events: names without an event change nothing, and a split run keeps the order.
+use Rattle.std.proofs.Common.{◌≡◌, ℕ, ◌+◌, zero, suc, arith, true, false, not, if◌then◌else◌, List, [], ◌∷◌, ◌++◌, map, filter, fold, length, refl, ap, sym, subst, ◌∙◌, append_assoc, append-nil, slice_index_or}
+use Rattle.std.specs.List.{range_with_len}
+use Rattle.std.proofs.lemmas.List.{map-append, length_push}
+use Rattle.std.proofs.lemmas.List.Elements.{filter-append}
+use Rattle.flex_base.specs.Classes.{class_of_what}
+use Rattle.flex_base.specs.Setup.{Setup}
+use Rattle.flex_base.specs.Unsplit.{Machine, Made, begin, step, reach, reach_from, unsplit, does}
+use Rattle.flex_base.specs.Split.{Plan, Parted, part, parted, unparted, split, event, numbered, handed, is_same_engine}
+use Rattle.flex_base.specs.Journal.{is_handover, strip, order_of, numbers_of, moves_of, IsLegal, Obeys}
+use Rattle.flex_base.specs.declared.class.Class.TheVariants as class
+use Rattle.flex_base.specs.declared.engine.Engine.{Engine}
+use Rattle.flex_base.specs.declared.event.Event.{Event}
+use Rattle.flex_base.specs.declared.event.What.{What}
+use Rattle.flex_base.specs.declared.event.What.TheVariants as what
+use Rattle.flex_base.proofs.Machines.{StepsTo, Stays, Adds, step_steps, reach-cons, reach-none}
+
+-- none of these is a handover
+pub data NoHandover : List Made → Type 0 where
+  None : NoHandover []
+  More : (m : Made) (made : List Made) → is_handover m.what ≡ false → NoHandover made → NoHandover (m ∷ made)
+
+abbrev pub harts_of : List Made → List ℕ
+harts_of made = map (λ (m : Made). m.hart) made
+
+-- the events that an order adds; taking their harts in order leads to the same state
+pub record AddedBy (setup : Setup) (u : Machine) (order : List ℕ) : Type 0 where
+  pub new : List Made
+  pub events : (reach_from setup u order).events ≡ u.events ++ new
+  pub leads : reach_from setup u (harts_of new) ≡ reach_from setup u order
+  pub plain : NoHandover new
+
+added_none : (setup : Setup) (u : Machine) → AddedBy setup u []
+added_none setup u = record {
+  new = [];
+  events = ap (λ (m : Machine). m.events) (reach-none setup u) ∙ sym (append-nil u.events);
+  leads = refl;
+  plain = None;
+}
+
+added_more : (setup : Setup) (u : Machine) (h : ℕ) (order : List ℕ) → AddedBy setup (step setup u h) order → StepsTo u h (step setup u h) → AddedBy setup u (h ∷ order)
+added_more setup u h order added (Stays same) = record {
+  new = added.new;
+  events = ap (λ (m : Machine). m.events) (reach-cons setup u h order) ∙ added.events ∙ ap (λ (m : Machine). m.events ++ added.new) same;
+  leads = ap (λ m. reach_from setup m (harts_of added.new)) (sym same) ∙ added.leads ∙ sym (reach-cons setup u h order);
+  plain = added.plain;
+}
+added_more setup u h order added (Adds happened plain events same) = record {
+  new = does h happened ∷ added.new;
+  events = ap (λ (m : Machine). m.events) (reach-cons setup u h order) ∙ added.events ∙ ap (λ es. es ++ added.new) events ∙ append_assoc u.events (does h happened ∷ []) added.new;
+  leads = reach-cons setup u h (harts_of added.new) ∙ added.leads ∙ sym (reach-cons setup u h order);
+  plain = More (does h happened) added.new plain added.plain;
+}
+
+pub added : (setup : Setup) (u : Machine) (order : List ℕ) → AddedBy setup u order
+added setup u [] = added_none setup u
+added setup u (h ∷ order) = added_more setup u h order (added setup (step setup u h) order) (step_steps setup u h)
+
+-- Stripping a split run gives back the events that were split.
+
+strip-append : (xs ys : List Event) → strip (xs ++ ys) ≡ strip xs ++ strip ys
+unfolding strip
+strip-append xs ys =
+    ap (map (λ (e : Event). does e.hart.0 e.what)) (filter-append (λ (e : Event). not (is_handover e.what)) xs ys)
+    ∙ map-append (λ (e : Event). does e.hart.0 e.what) (filter (λ (e : Event). not (is_handover e.what)) xs) (filter (λ (e : Event). not (is_handover e.what)) ys)
+
+strip_event : (number hart : ℕ) (holder : Engine) (happened : What) → is_handover happened ≡ false → strip (event number hart holder happened ∷ []) ≡ does hart happened ∷ []
+unfolding strip
+strip_event number hart holder happened plain =
+    ap (λ b. map (λ (e : Event). does e.hart.0 e.what) (if not b then event number hart holder happened ∷ [] else [])) plain
+
+strip_handover : (number hart : ℕ) (from to : Engine) → strip (event number hart from (what.Handover to) ∷ []) ≡ []
+unfolding strip
+strip_handover number hart from to = refl
+
+strip-handed : (events : List Event) (hart : ℕ) (from to : Engine) → strip (handed events hart from to) ≡ strip events
+strip-handed events hart from to = elim (is_same_engine from to) as (λ b. strip (if b then events else numbered events hart from (what.Handover to)) ≡ strip events) [
+  | true ↦ refl
+  | false ↦ strip-append events (event (length events) hart from (what.Handover to) ∷ [])
+      ∙ ap (λ es. strip events ++ es) (strip_handover (length events) hart from to)
+      ∙ append-nil (strip events)
+]
+
+strip-part : (plan : Plan) (p : Parted) (m : Made) → is_handover m.what ≡ false → strip (part plan p m).events ≡ strip p.events ++ m ∷ []
+strip-part plan p m plain =
+    let to = plan (class_of_what m.what) in
+    let from = slice_index_or p.engines m.hart (plan class.Fetch) in
+    let before = handed p.events m.hart from to in
+    strip-append before (event (length before) m.hart to m.what ∷ [])
+    ∙ ap (λ es. strip before ++ es) (strip_event (length before) m.hart to m.what plain)
+    ∙ ap (λ es. es ++ m ∷ []) (strip-handed p.events m.hart from to)
+
+strip-parts : (plan : Plan) (p : Parted) (made : List Made) → NoHandover made → strip (fold (part plan) p made).events ≡ strip p.events ++ made
+strip-parts plan p [] plain = sym (append-nil (strip p.events))
+strip-parts plan p (m ∷ made) (More _ _ plain others) =
+    strip-parts plan (part plan p m) made others
+    ∙ ap (λ es. es ++ made) (strip-part plan p m plain)
+    ∙ append_assoc (strip p.events) (m ∷ []) made
+
+pub strip-split : (plan : Plan) (harts : ℕ) (made : List Made) → NoHandover made → strip (split plan harts made) ≡ made
+unfolding strip parted
+strip-split plan harts made plain = strip-parts plan (unparted plan harts) made plain
+
+pub order_of-split : (plan : Plan) (harts : ℕ) (made : List Made) → NoHandover made → order_of (split plan harts made) ≡ harts_of made
+unfolding order_of
+order_of-split plan harts made plain = ap harts_of (strip-split plan harts made plain)
+
+-- the order of a split run leads where the run led
+pub reach-order_of : (setup : Setup) (plan : Plan) (order : List ℕ) → reach setup (order_of (split plan setup.harts (unsplit setup order))) ≡ reach setup order
+reach-order_of setup plan order =
+    let new = added setup (begin setup) order in
+    ap (λ made. reach setup (order_of (split plan setup.harts made))) new.events
+    ∙ ap (reach setup) (order_of-split plan setup.harts new.new new.plain)
+    ∙ new.leads
+
+pub strip-split-unsplit : (setup : Setup) (plan : Plan) (order : List ℕ) → strip (split plan setup.harts (unsplit setup order)) ≡ unsplit setup order
+strip-split-unsplit setup plan order =
+    let new = added setup (begin setup) order in
+    ap (λ made. strip (split plan setup.harts made)) new.events
+    ∙ strip-split plan setup.harts new.new new.plain
+    ∙ sym new.events
+
+-- A split run is numbered from 0, and obeys its plan.
+
+numbers_of-numbered : (events : List Event) (hart : ℕ) (holder : Engine) (happened : What) → numbers_of (numbered events hart holder happened) ≡ numbers_of events ++ length events ∷ []
+unfolding numbers_of
+numbers_of-numbered events hart holder happened = map-append (λ (e : Event). e.number) events (event (length events) hart holder happened ∷ [])
+
+range_with_len-suc : (a n : ℕ) → range_with_len a (suc n) ≡ range_with_len a n ++ (a + n) ∷ []
+range_with_len-suc a zero = let e : a ≡ a + 0 = omega arith in ap (λ (k : ℕ). k ∷ []) e
+range_with_len-suc a (suc n) =
+    let e : (a + 1) + n ≡ a + suc n = omega arith in
+    ap (λ (ks : List ℕ). a ∷ ks) (range_with_len-suc (a + 1) n ∙ ap (λ (k : ℕ). range_with_len (a + 1) n ++ k ∷ []) e)
+
+range_with_len_push : (n : ℕ) → range_with_len 0 (n + 1) ≡ range_with_len 0 n ++ n ∷ []
+range_with_len_push n =
+    let one : n + 1 ≡ suc n = omega arith in
+    let start : 0 + n ≡ n = omega arith in
+    ap (range_with_len 0) one ∙ range_with_len-suc 0 n ∙ ap (λ (k : ℕ). range_with_len 0 n ++ k ∷ []) start
+
+-- the numbers are 0, 1, 2 and so on
+abbrev IsNumbered : List Event → Type 0
+IsNumbered events = numbers_of events ≡ range_with_len 0 (length events)
+
+IsNumbered-numbered : (events : List Event) (hart : ℕ) (holder : Engine) (happened : What) → IsNumbered events → IsNumbered (numbered events hart holder happened)
+IsNumbered-numbered events hart holder happened so_far =
+    numbers_of-numbered events hart holder happened
+    ∙ ap (λ ns. ns ++ length events ∷ []) so_far
+    ∙ sym (range_with_len_push (length events))
+    ∙ ap (range_with_len 0) (sym (length_push events (event (length events) hart holder happened)))
+
+IsNumbered-handed : (events : List Event) (hart : ℕ) (from to : Engine) → IsNumbered events → IsNumbered (handed events hart from to)
+IsNumbered-handed events hart from to so_far = elim (is_same_engine from to) as (λ b. IsNumbered (if b then events else numbered events hart from (what.Handover to)))
+    [ true ↦ so_far | false ↦ IsNumbered-numbered events hart from (what.Handover to) so_far ]
+
+IsNumbered-parts : (plan : Plan) (p : Parted) (made : List Made) → IsNumbered p.events → IsNumbered (fold (part plan) p made).events
+IsNumbered-parts plan p [] so_far = so_far
+IsNumbered-parts plan p (m ∷ made) so_far =
+    let to = plan (class_of_what m.what) in
+    IsNumbered-parts plan (part plan p m) made
+    (IsNumbered-numbered (handed p.events m.hart (slice_index_or p.engines m.hart (plan class.Fetch)) to) m.hart to m.what
+    (IsNumbered-handed p.events m.hart (slice_index_or p.engines m.hart (plan class.Fetch)) to so_far))
+
+IsNumbered-split : (plan : Plan) (harts : ℕ) (made : List Made) → IsNumbered (split plan harts made)
+unfolding parted numbers_of
+IsNumbered-split plan harts made = IsNumbered-parts plan (unparted plan harts) made refl
+
+pub split_legal : (setup : Setup) (plan : Plan) (order : List ℕ) → IsLegal setup (split plan setup.harts (unsplit setup order))
+split_legal setup plan order = record {
+  numbers = IsNumbered-split plan setup.harts (unsplit setup order);
+  events = strip-split-unsplit setup plan order ∙ sym (ap (λ (u : Machine). u.events) (reach-order_of setup plan order));
+}
+
+pub split_obeys : (setup : Setup) (plan : Plan) (order : List ℕ) → Obeys plan setup.harts (split plan setup.harts (unsplit setup order))
+split_obeys setup plan order = λ hart. ap (λ made. moves_of hart (split plan setup.harts made)) (sym (strip-split-unsplit setup plan order))

@@ -1,0 +1,87 @@
+-- Going on in a story by one reply.
+use Rattle.std.proofs.Common.{◌≡◌, ◌≢◌, true, false, if◌then◌else◌, List, [], ◌∷◌, ◌++◌, ◌==◌, refl, ap, sym, ◌∙◌, eq-eqb}
+use Rattle.std.proofs.lemmas.Bool.{ne_eqb}
+use Rattle.flex_base.specs.Setup.{Setup}
+use Rattle.flex_base.specs.State.{State}
+use Rattle.flex_base.specs.Place.{in_ram}
+use Rattle.flex_base.specs.Decoding.{decoded}
+use Rattle.flex_base.specs.Story.{Want, Asks, Ends, IsOver, IsLater, Story, Says, Closes, StaysOver, ComesLater, story, pulses, fetches, works, traps, is_tick, goes, want, ask}
+use Rattle.flex_base.specs.declared.access.Access.TheVariants as acc
+use Rattle.flex_base.specs.declared.access.Reply.{Reply}
+use Rattle.flex_base.specs.declared.event.EndPart.{EndPart}
+
+-- what follows one reply
+abbrev pub after_one : Story → Reply → Story
+after_one (Says access next) reply = next reply
+after_one (Closes part after) reply = Closes part after
+after_one StaysOver reply = StaysOver
+after_one ComesLater reply = ComesLater
+
+pub goes_push : (s : Story) (replies : List Reply) (reply : Reply) → goes s (replies ++ reply ∷ []) ≡ after_one (goes s replies) reply
+goes_push (Says access next) [] reply = refl
+goes_push (Says access next) (r ∷ replies) reply = goes_push (next r) replies reply
+goes_push (Closes part after) [] reply = refl
+goes_push (Closes part after) (r ∷ replies) reply = refl
+goes_push StaysOver [] reply = refl
+goes_push StaysOver (r ∷ replies) reply = refl
+goes_push ComesLater [] reply = refl
+goes_push ComesLater (r ∷ replies) reply = refl
+
+-- a hart that is over stays so
+pub goes-StaysOver : (replies : List Reply) → goes StaysOver replies ≡ StaysOver
+goes-StaysOver [] = refl
+goes-StaysOver (reply ∷ replies) = refl
+
+-- The story by its first event.
+
+abbrev pub retires : Story
+retires = Says acc.Retire (λ reply. StaysOver)
+
+abbrev pub goes_on : Setup → State → Story
+goes_on setup a = Says (acc.Fetch a.pc) (λ reply. works setup a (decoded reply.value))
+
+abbrev pub after_pulse : Setup → State → Reply → Story
+after_pulse setup a reply = if reply.stop then StaysOver else fetches setup (record a { lines = reply.lines })
+
+pub story_spent : (setup : Setup) (a : State) → a.ends ≡ setup.budget → story setup a ≡ retires
+story_spent setup a spent = ap (λ b. if b then retires else pulses setup a) (eq-eqb a.ends setup.budget spent)
+
+story_unspent : (setup : Setup) (a : State) → a.ends ≢ setup.budget → story setup a ≡ pulses setup a
+story_unspent setup a unspent = ap (λ b. if b then retires else pulses setup a) (ne_eqb a.ends setup.budget unspent)
+
+pub story_due : (setup : Setup) (a : State) → a.ends ≢ setup.budget → a.due ≡ true → story setup a ≡ Says (acc.Pulse (is_tick a)) (after_pulse setup a)
+story_due setup a unspent due = story_unspent setup a unspent ∙ ap (λ b. if b then Says (acc.Pulse (is_tick a)) (after_pulse setup a) else fetches setup a) due
+
+story_undue : (setup : Setup) (a : State) → a.ends ≢ setup.budget → a.due ≡ false → story setup a ≡ fetches setup a
+story_undue setup a unspent undue = story_unspent setup a unspent ∙ ap (λ b. if b then Says (acc.Pulse (is_tick a)) (after_pulse setup a) else fetches setup a) undue
+
+pub story_fetches : (setup : Setup) (a : State) → a.ends ≢ setup.budget → a.due ≡ false → in_ram setup.ram a.pc 4 ≡ true → story setup a ≡ goes_on setup a
+story_fetches setup a unspent undue within = story_undue setup a unspent undue ∙ ap (λ b. if b then goes_on setup a else traps a 1 a.pc) within
+
+pub story_outside : (setup : Setup) (a : State) → a.ends ≢ setup.budget → a.due ≡ false → in_ram setup.ram a.pc 4 ≡ false → story setup a ≡ traps a 1 a.pc
+story_outside setup a unspent undue outside = story_undue setup a unspent undue ∙ ap (λ b. if b then goes_on setup a else traps a 1 a.pc) outside
+
+-- At its beginning an instruction is never at its end, nor the hart over.
+
+abbrev pub IsBeginning : Want → Type 0
+IsBeginning (Asks access) = Unit {0}
+IsBeginning (Ends part after) = ⊥
+IsBeginning IsOver = ⊥
+IsBeginning IsLater = Unit {0}
+
+fetches_begin : (setup : Setup) (a : State) → IsBeginning (want (fetches setup a))
+fetches_begin setup a = elim (in_ram setup.ram a.pc 4) as (λ b. IsBeginning (want (if b then goes_on setup a else traps a 1 a.pc))) [ true ↦ tt | false ↦ tt ]
+
+pulses_begin : (setup : Setup) (a : State) → IsBeginning (want (pulses setup a))
+pulses_begin setup a = elim a.due as (λ b. IsBeginning (want (if b then Says (acc.Pulse (is_tick a)) (after_pulse setup a) else fetches setup a))) [ true ↦ tt | false ↦ fetches_begin setup a ]
+
+pub story_begins : (setup : Setup) (a : State) → IsBeginning (want (story setup a))
+story_begins setup a = elim (a.ends == setup.budget) as (λ b. IsBeginning (want (if b then retires else pulses setup a))) [ true ↦ tt | false ↦ pulses_begin setup a ]
+
+-- a hart that has spent its budget comes to no end
+spent_never_ends : (replies : List Reply) (part : EndPart) (after : State) → want (goes retires replies) ≡ Ends part after → ⊥
+spent_never_ends [] part after e = cc
+spent_never_ends (reply ∷ replies) part after e = let over = ap want (goes-StaysOver replies) in cc
+
+pub ends_unspent : (setup : Setup) (a : State) (replies : List Reply) (part : EndPart) (after : State) → ask setup a replies ≡ Ends part after → a.ends ≢ setup.budget
+ends_unspent setup a replies part after ends spent = spent_never_ends replies part after (ap (λ s. want (goes s replies)) (sym (story_spent setup a spent)) ∙ ends)

@@ -1,0 +1,61 @@
+-- The forms that accesses and replies have.
+use Rattle.std.specs.Prelude.{◌≡◌, ℕ, ◌*◌, ◌^◌, ◌<◌, Bool, true, false, ◌&&◌, ◌||◌, ◌==◌}
+use Rattle.flex_base.specs.Word.{is_multiple}
+use Rattle.flex_base.specs.Place.{in_ram, place_of}
+use Rattle.flex_base.specs.Setup.{Setup}
+use Rattle.flex_base.specs.declared.access.Access.{Access}
+use Rattle.flex_base.specs.declared.access.Access.TheVariants as acc
+use Rattle.flex_base.specs.declared.access.Reply.{Reply}
+use Rattle.flex_base.specs.declared.settings.Place.TheVariants as place
+
+-- a reply that tells a value of so many bits, and no lines
+pub record TellsValue (bits : ℕ) (reply : Reply) : Type 0 where
+  pub value : reply.value < 2 ^ bits
+  pub lines : reply.lines ≡ 0
+  pub stop : reply.stop ≡ false
+
+-- a reply that tells the lines and the stop, and whether the hart still waits
+pub record TellsLines (reply : Reply) : Type 0 where
+  pub value : reply.value < 2
+  pub lines : reply.lines < 2 ^ 64
+
+-- the form of a reply: what the access doesn't use is 0 and false, and what was read is zero-extended
+abbrev pub HasForm : Access → Reply → Type 0
+HasForm (acc.Fetch address) reply = TellsValue 32 reply
+HasForm (acc.Pte address) reply = TellsValue 64 reply
+HasForm (acc.Read address width) reply = TellsValue (8 * width) reply
+HasForm (acc.Write address width value) reply = TellsValue 0 reply
+HasForm (acc.Lr address width) reply = TellsValue (8 * width) reply
+HasForm (acc.Sc address width value) reply = TellsValue 1 reply
+HasForm (acc.Amo op address width value) reply = TellsValue (8 * width) reply
+HasForm (acc.DevRead address width) reply = TellsValue (8 * width) reply
+HasForm (acc.DevWrite address width value) reply = TellsValue 0 reply
+HasForm (acc.Pulse tick) reply = TellsLines reply
+HasForm (acc.Wait mie) reply = TellsLines reply
+HasForm acc.Retire reply = TellsValue 0 reply
+HasForm acc.Time reply = TellsValue 64 reply
+
+-- aligned bytes of RAM, as many as the width
+pub record IsAlignedRam (setup : Setup) (address width : ℕ) : Type 0 where
+  pub aligned : is_multiple address width ≡ true
+  pub in_ram : in_ram setup.ram address width ≡ true
+
+-- a width of a load, a store or a device register; of these, a width of an atomic
+abbrev pub IsWidth : ℕ → Type 0
+IsWidth width = (width == 1) || (width == 2) || (width == 4) || (width == 8) ≡ true
+
+abbrev pub IsAtomicWidth : ℕ → Type 0
+IsAtomicWidth width = (width == 4) || (width == 8) ≡ true
+
+-- an access stands where its kind may stand
+abbrev pub IsPlaced : Setup → Access → Type 0
+IsPlaced setup (acc.Fetch address) = IsAlignedRam setup address 4
+IsPlaced setup (acc.Pte address) = IsAlignedRam setup address 8
+IsPlaced setup (acc.Read address width) = IsWidth width × IsAlignedRam setup address width
+IsPlaced setup (acc.Write address width value) = IsWidth width × IsAlignedRam setup address width
+IsPlaced setup (acc.Lr address width) = IsAtomicWidth width × IsAlignedRam setup address width
+IsPlaced setup (acc.Sc address width value) = IsAtomicWidth width × IsAlignedRam setup address width
+IsPlaced setup (acc.Amo op address width value) = IsAtomicWidth width × IsAlignedRam setup address width
+IsPlaced setup (acc.DevRead address width) = place_of setup.harts setup.ram address width ≡ place.Device
+IsPlaced setup (acc.DevWrite address width value) = place_of setup.harts setup.ram address width ≡ place.Device
+IsPlaced setup other = Unit {0}

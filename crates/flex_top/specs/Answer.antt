@@ -1,0 +1,74 @@
+-- What `solo` answers, and what it writes.
+use Rattle.std.specs.Prelude.{◌≡◌, ℕ, Bool, true, false, ◌&&◌, ◌==◌, if◌then◌else◌, nat_lt, List, [], ◌∷◌, length, Option, None, Some}
+use Rattle.flex_base.specs.Place.{ram_base}
+use Rattle.flex_base.specs.Loaded.{Loaded}
+use Rattle.flex_base.specs.Setup.{Setup}
+use Rattle.flex_base.specs.Classes.{default_plan}
+use Rattle.flex_base.specs.Unsplit.{begin, unsplit, reach, has_ended}
+use Rattle.flex_base.specs.Built.{first_unbuilt}
+use Rattle.flex_base.specs.Split.{split}
+use Rattle.flex_base.specs.Journal.{IsLegal, Obeys, order_of}
+use Rattle.flex_base.specs.declared.event.Event.{Event}
+use Rattle.flex_top.specs.Play.{solo_order}
+use Rattle.flex_top.specs.Trace.{trace_text}
+use Rattle.flex_top.specs.declared.status.Status.{Status}
+use Rattle.flex_top.specs.declared.status.Status.TheVariants as status
+use Rattle.flex_top.specs.declared.status.ImageFault.TheVariants as image
+
+-- a raw file stands at the beginning of RAM, which is its entry
+abbrev pub raw : List ℕ → Loaded
+raw file = record { entry = ram_base; parts = (ram_base, file) ∷ [] }
+
+-- a run of one hart
+abbrev pub setup_of : List ℕ → ℕ → ℕ → Setup
+setup_of file ram budget = record { image = raw file; harts = 1; ram = ram; budget = budget }
+
+-- the file begins with the bytes 7f 45 4c 46
+abbrev pub is_elf : List ℕ → Bool
+is_elf (a ∷ b ∷ c ∷ d ∷ rest) = (a == 0x7f) && (b == 0x45) && (c == 0x4c) && (d == 0x46)
+is_elf other = false
+
+-- a run that comes to what isn't built isn't written
+abbrev pub answer_of_run : Option ℕ → Status
+answer_of_run None = status.Ended
+answer_of_run (Some pc) = status.Unbuilt (Some pc)
+
+abbrev pub answer_of_setup : Setup → Status
+answer_of_setup setup = answer_of_run (first_unbuilt setup (begin setup) (solo_order setup))
+
+-- a file that can be taken: what isn't built of images, a raw file that is longer than RAM, or the run
+abbrev pub answer_of_file : List ℕ → ℕ → ℕ → Status
+answer_of_file file ram budget = if is_elf file then status.Unbuilt None
+    else (if nat_lt ram (length file) then status.ImageRefused (image.SegmentOutsideRam 0) else answer_of_setup (setup_of file ram budget))
+
+-- an image file has at most 256 MiB
+abbrev pub image_limit : ℕ
+image_limit = 268435456
+
+abbrev pub expected : List ℕ → ℕ → ℕ → Status
+expected file ram budget = if nat_lt image_limit (length file) then status.ImageRefused (image.TooLong (length file)) else answer_of_file file ram budget
+
+-- the answer is the expected one, unless a fault of the outside or want of memory came before
+abbrev pub IsAnswer : Status → Status → Type 0
+IsAnswer expected status.ReadFault = Unit {0}
+IsAnswer expected status.OutOfMemory = Unit {0}
+IsAnswer expected status.WriteFault = expected ≡ status.Ended
+IsAnswer expected answer = answer ≡ expected
+
+-- the answer for an image of this name, if there is one
+abbrev pub Answers : Option (List ℕ) → ℕ → ℕ → Status → Type 0
+Answers None ram budget answer = answer ≡ status.ReadFault
+Answers (Some file) ram budget answer = IsAnswer (expected file ram budget) answer
+
+-- the journal of the run: what the unsplit machine does in the rounds, split by the default plan
+unfoldable pub journal_of : Setup → List Event
+journal_of setup = split default_plan setup.harts (unsplit setup (solo_order setup))
+
+unfoldable pub trace_of : Setup → List ℕ
+trace_of setup = trace_text setup (journal_of setup)
+
+-- the journal is that of a legal run that obeys the default plan and has ended
+pub record IsWhole (setup : Setup) : Type 0 where
+  pub legal : IsLegal setup (journal_of setup)
+  pub obeys : Obeys default_plan setup.harts (journal_of setup)
+  pub ended : has_ended setup (reach setup (order_of (journal_of setup))) ≡ true

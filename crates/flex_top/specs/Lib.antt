@@ -1,0 +1,11 @@
+pub mod Words
+pub mod EventText
+pub mod TailText
+pub mod Trace
+pub mod Written
+pub mod Memory
+pub mod Splitting
+pub mod Play
+pub mod Status
+pub mod Answer
+pub mod Ready

@@ -1,0 +1,41 @@
+-- Statuses: the number that the program ends with, and the line that it says.
+use Rattle.std.specs.Prelude.{ℕ, Bool, true, false, if◌then◌else◌, List, [], ◌++◌, codes, decimal}
+use Rattle.flex_top.specs.declared.status.Status.{Status}
+use Rattle.flex_top.specs.declared.status.Status.TheVariants as status
+use Rattle.flex_top.specs.declared.status.ImageFault.{ImageFault}
+use Rattle.flex_top.specs.declared.status.ImageFault.TheVariants as image
+
+abbrev pub status_code : Status → ℕ
+status_code status.Ended = 0
+status_code status.Usage = 1
+status_code status.ReadFault = 2
+status_code (status.ImageRefused fault) = 3
+status_code status.OutOfMemory = 5
+status_code status.WriteFault = 6
+status_code (status.Unbuilt pc) = 10
+
+-- the number of an image's fault
+abbrev pub fault_number : ImageFault → ℕ
+fault_number (image.SegmentOutsideRam index) = 9
+fault_number (image.TooLong bytes) = 11
+
+abbrev pub refusal : ImageFault → List ℕ
+refusal fault = codes "image refused " ++ decimal (fault_number fault)
+
+-- what a status says
+abbrev pub meaning : Status → List ℕ
+meaning status.Ended = []
+meaning status.Usage = codes "usage"
+meaning status.ReadFault = codes "read fault"
+meaning (status.ImageRefused fault) = refusal fault
+meaning status.OutOfMemory = codes "out of memory"
+meaning status.WriteFault = codes "write fault"
+meaning (status.Unbuilt pc) = codes "unbuilt"
+
+abbrev pub is_ended : Status → Bool
+is_ended status.Ended = true
+is_ended other = false
+
+-- one line, or nothing where all is done
+abbrev pub status_text : Status → List ℕ
+status_text s = if is_ended s then [] else codes "flexemu: " ++ meaning s ++ codes "\n"
