@@ -8,6 +8,8 @@ use Rattle.flex_base.specs.declared.engine.Engine.{Engine}
 use Rattle.flex_base.specs.declared.engine.Engine.TheVariants as engine
 use Rattle.flex_base.specs.declared.event.What.{What}
 use Rattle.flex_base.specs.declared.event.What.TheVariants as what
+use Rattle.flex_base.specs.declared.operation.Op.{Op}
+use Rattle.flex_base.specs.declared.operation.Op.TheVariants as op
 
 abbrev pub class_of_access : Access → Class
 class_of_access (acc.Fetch address) = class.Fetch
@@ -23,6 +25,31 @@ class_of_access (acc.Pulse tick) = class.Pulse
 class_of_access (acc.Wait mie) = class.Pulse
 class_of_access acc.Retire = class.Pulse
 class_of_access acc.Time = class.Csr
+
+abbrev pub class_of_op : Op → Class
+class_of_op (op.Lui rd imm) = class.Alu
+class_of_op (op.Auipc rd imm) = class.Alu
+class_of_op (op.Jal rd imm) = class.Jump
+class_of_op (op.Jalr rd rs1 imm) = class.Jump
+class_of_op (op.Branch compares rs1 rs2 imm) = class.Jump
+class_of_op (op.Load width signed rd rs1 imm) = class.Load
+class_of_op (op.Store width rs1 rs2 imm) = class.Store
+class_of_op (op.AluImm computes rd rs1 imm) = class.Alu
+class_of_op (op.AluReg computes rd rs1 rs2) = class.Alu
+class_of_op (op.Muldiv computes rd rs1 rs2) = class.Muldiv
+class_of_op (op.Lr width rd rs1 aq rl) = class.Atomic
+class_of_op (op.Sc width rd rs1 rs2 aq rl) = class.Atomic
+class_of_op (op.Amo computes width rd rs1 rs2 aq rl) = class.Atomic
+class_of_op (op.Fence free) = class.Fence
+class_of_op (op.FenceI free) = class.Fence
+class_of_op (op.Csr does rd rs1 number) = class.Csr
+class_of_op op.Ecall = class.Trap
+class_of_op op.Ebreak = class.Trap
+class_of_op op.Sret = class.System
+class_of_op op.Mret = class.System
+class_of_op op.Wfi = class.System
+class_of_op (op.SfenceVma rs1 rs2) = class.System
+class_of_op (op.Illegal word) = class.Trap
 
 -- the class of an event; a handover has none of its own, and no definition asks for it
 abbrev pub class_of_what : What → Class

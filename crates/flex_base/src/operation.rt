@@ -180,6 +180,4 @@ pub enum Op {
         rs2: u8,
     },
     Illegal(u32),
-    /// A word whose row isn't built yet.
-    Later(u32),
 }

@@ -1,1 +1,5 @@
-mod Masks
+mod Pieces
+mod Opcodes
+mod OneRow
+mod Back
+mod Same

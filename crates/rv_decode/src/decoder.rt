@@ -1,130 +1,110 @@
-ghost use Rattle.std.specs.Prelude.{◌≡◌, ◌<◌, ◌^◌};
-ghost use Rattle.flex_base.specs.Decoding.{decoded, rd_of, rs1_of, imm_i, imm_j};
-ghost use Rattle.flex_base.specs.Word.{field, sign_extend};
+ghost use Rattle.std.specs.Prelude.{◌≡◌, ◌≤◌, length};
+ghost use Rattle.std.specs.List.{filter};
+ghost use Rattle.flex_base.specs.Decoding.{decoded, fits_row, rows};
+ghost use Rattle.flex_base.specs.Word.{field};
 
-use flex_base::{AluOp, Op};
+use crate::atomic::decode_atomic;
+use crate::forms::{auipc, branch, fence, fence_i, jal, jalr, load, lui, store};
+use crate::integer::{
+    decode_immediate, decode_register, decode_word_immediate, decode_word_register,
+};
+use crate::system::decode_system;
+use crate::word::{funct3, opcode};
+use flex_base::{BranchOp, Op};
 
-/// The operation of the row that the word matches.
+/// The operation of the row that the word matches, with its fields; `Illegal` where no row matches
+/// (Volume I, "RV32/64G Instruction Set Listings").
+#[tactic(auto, using(crate::proofs::Opcodes::opcodes, crate::proofs::OneRow::one_row), unfolding(flex_base::specs::Decoding::rows))]
 pub fn decode(word: u32) -> Op
+    ensures meaning { result ≡ decoded word }
+    // no word fits two rows, so the order of the rows means nothing
+    ensures one_row { length (filter (fits_row word) rows) ≤ 1 }
+{
+    match opcode(word) {
+        0x03 => decode_load(word),
+        0x0f => decode_fence(word),
+        0x13 => decode_immediate(word),
+        0x17 => auipc(word),
+        0x1b => decode_word_immediate(word),
+        0x23 => decode_store(word),
+        0x2f => decode_atomic(word),
+        0x33 => decode_register(word),
+        0x37 => lui(word),
+        0x3b => decode_word_register(word),
+        0x63 => decode_branch(word),
+        0x67 => decode_jalr(word),
+        0x6f => jal(word),
+        0x73 => decode_system(word),
+        _ => Op::Illegal(word),
+    }
+}
+
+#[tactic(auto, using(crate::proofs::Opcodes::loads), unfolding(flex_base::specs::Decoding::rows))]
+fn decode_load(word: u32) -> Op
+    requires opcode { field 0 7 word ≡ 0x03 }
     ensures { result ≡ decoded word }
 {
-    match field(word, 0, 7) {
-        0x6f => Op::Jal {
-            rd: rd(word),
-            imm: immediate_j(word),
-        },
-        0x13 => immediate_operation(word),
-        _ => Op::Later(word),
+    match funct3(word) {
+        0 => load(1, true, word),
+        1 => load(2, true, word),
+        2 => load(4, true, word),
+        3 => load(8, true, word),
+        4 => load(1, false, word),
+        5 => load(2, false, word),
+        6 => load(4, false, word),
+        _ => Op::Illegal(word),
     }
 }
 
-fn immediate_operation(word: u32) -> Op
-    requires opcode { field 0 7 word ≡ 0x13 }
+#[tactic(auto, using(crate::proofs::Opcodes::stores), unfolding(flex_base::specs::Decoding::rows))]
+fn decode_store(word: u32) -> Op
+    requires opcode { field 0 7 word ≡ 0x23 }
     ensures { result ≡ decoded word }
 {
-    match field(word, 12, 3) {
-        0 => Op::AluImm {
-            op: AluOp::Add,
-            rd: rd(word),
-            rs1: rs1(word),
-            imm: immediate_i(word),
-        },
-        _ => Op::Later(word),
+    match funct3(word) {
+        0 => store(1, word),
+        1 => store(2, word),
+        2 => store(4, word),
+        3 => store(8, word),
+        _ => Op::Illegal(word),
     }
 }
 
-// The field of so many bits that begins at bit `at`.
-fn field(word: u32, at: u32, bits: u32) -> u32
-    requires { (at < 32) × (bits < 32) }
-    ensures { result ≡ field at bits word }
+#[tactic(auto, using(crate::proofs::Opcodes::branches), unfolding(flex_base::specs::Decoding::rows))]
+fn decode_branch(word: u32) -> Op
+    requires opcode { field 0 7 word ≡ 0x63 }
+    ensures { result ≡ decoded word }
 {
-    word >> at & ((1 << bits) - 1)
-}
-
-fn rd(word: u32) -> u8
-    ensures { result ≡ rd_of word }
-{
-    field(word, 7, 5) as u8
-}
-
-fn rs1(word: u32) -> u8
-    ensures { result ≡ rs1_of word }
-{
-    field(word, 15, 5) as u8
-}
-
-fn immediate_i(word: u32) -> u64
-    ensures { result ≡ imm_i word }
-{
-    sign_extended(12, field(word, 20, 12))
-}
-
-fn immediate_j(word: u32) -> u64
-    ensures { result ≡ imm_j word }
-{
-    let high = field(word, 31, 1) << 20;
-    let middle = field(word, 12, 8) << 12;
-    let bit = field(word, 20, 1) << 11;
-    let low = field(word, 21, 10) << 1;
-    sign_extended(21, high + middle + bit + low)
-}
-
-// The 64-bit value of a two's complement number of so many bits.
-fn sign_extended(bits: u32, value: u32) -> u64
-    requires bits { (0 < bits) × (bits < 32) }
-    requires fits { value < 2 ^ bits }
-    ensures { result ≡ sign_extend bits value }
-{
-    let value = value as u64;
-    if value < 1 << (bits - 1) {
-        value
-    } else {
-        value + (u64::MAX - ((1 << bits) - 1))
+    match funct3(word) {
+        0 => branch(BranchOp::Eq, word),
+        1 => branch(BranchOp::Ne, word),
+        4 => branch(BranchOp::Lt, word),
+        5 => branch(BranchOp::Ge, word),
+        6 => branch(BranchOp::Ltu, word),
+        7 => branch(BranchOp::Geu, word),
+        _ => Op::Illegal(word),
     }
 }
 
-#[cfg(test)]
-mod tests {
-    use super::*;
+#[tactic(auto, using(crate::proofs::Opcodes::jalrs), unfolding(flex_base::specs::Decoding::rows))]
+fn decode_jalr(word: u32) -> Op
+    requires opcode { field 0 7 word ≡ 0x67 }
+    ensures { result ≡ decoded word }
+{
+    match funct3(word) {
+        0 => jalr(word),
+        _ => Op::Illegal(word),
+    }
+}
 
-    #[test]
-    fn decodes_words(rt: HostRuntime) {
-        let cases = [
-            // addi x5, x0, 7
-            (
-                0x00700293,
-                Op::AluImm {
-                    op: AluOp::Add,
-                    rd: 5,
-                    rs1: 0,
-                    imm: 7,
-                },
-            ),
-            // addi x10, x11, -1
-            (
-                0xfff58513,
-                Op::AluImm {
-                    op: AluOp::Add,
-                    rd: 10,
-                    rs1: 11,
-                    imm: 0xffff_ffff_ffff_ffff,
-                },
-            ),
-            // jal x0, 0
-            (0x0000006f, Op::Jal { rd: 0, imm: 0 }),
-            // jal x1, -4
-            (
-                0xffdff0ef,
-                Op::Jal {
-                    rd: 1,
-                    imm: 0xffff_ffff_ffff_fffc,
-                },
-            ),
-            // add x0, x0, x0
-            (0x00000033, Op::Later(0x00000033)),
-        ];
-        for (word, op) in cases {
-            assert_eq!(rt; decode(word), op);
-        }
+#[tactic(auto, using(crate::proofs::Opcodes::fences), unfolding(flex_base::specs::Decoding::rows))]
+fn decode_fence(word: u32) -> Op
+    requires opcode { field 0 7 word ≡ 0x0f }
+    ensures { result ≡ decoded word }
+{
+    match funct3(word) {
+        0 => fence(word),
+        1 => fence_i(word),
+        _ => Op::Illegal(word),
     }
 }

@@ -1,6 +1,6 @@
 use Rattle.std.proofs.Common.{◌<◌, ◌/◌, ◌^◌, arith}
 use Rattle.std.proofs.lemmas.Nat.{and_mask, one_shl}
-use Rattle.rv_decode.proofs.decoder.field.Goals as goal
+use Rattle.rv_decode.proofs.word.field.Goals as goal
 
 pub returns : goal.returns
 returns c =
