@@ -15,33 +15,37 @@ pub fn amo(op: AmoOp, old: u64, source: u64, width: u8) -> u64
     requires width { (width ≡ 4) ⊎ (width ≡ 8) }
     ensures { result ≡ amo_of op old source width }
 {
-    let old = cut(old, width);
-    let source = cut(source, width);
+    let word = cut(old, width);
+    let operand = cut(source, width);
     match op {
-        AmoOp::Swap => source,
-        AmoOp::Add => cut(old.wrapping_add(source), width),
-        AmoOp::Xor => old ^ source,
-        AmoOp::And => old & source,
-        AmoOp::Or => old | source,
-        AmoOp::Min => if is_less(source, old, width) { source } else { old },
-        AmoOp::Max => if is_less(old, source, width) { source } else { old },
-        AmoOp::Minu => if source < old { source } else { old },
-        AmoOp::Maxu => if old < source { source } else { old },
+        AmoOp::Swap => operand,
+        AmoOp::Add => cut(word.wrapping_add(operand), width),
+        AmoOp::Xor => word ^ operand,
+        AmoOp::And => word & operand,
+        AmoOp::Or => word | operand,
+        AmoOp::Min => if is_less(source, old, width) { operand } else { word },
+        AmoOp::Max => if is_less(old, source, width) { operand } else { word },
+        AmoOp::Minu => if operand < word { operand } else { word },
+        AmoOp::Maxu => if word < operand { operand } else { word },
     }
 }
 
-// The lowest bytes of a value, so many as the width says.
+// The lowest bytes of a register, so many as the width says.
 fn cut(value: u64, width: u8) -> u64
     requires width { (width ≡ 4) ⊎ (width ≡ 8) }
     ensures { result ≡ low (8 * width) value }
 {
-    if width == 4 { value & 0xffff_ffff } else { value }
+    if width == 4 {
+        u64::from(low_word(value))
+    } else {
+        value
+    }
 }
 
-// The order of two words of this width as signed numbers.
+// The order of the lowest bytes of two registers as signed numbers.
 fn is_less(a: u64, b: u64, width: u8) -> bool
     requires width { (width ≡ 4) ⊎ (width ≡ 8) }
-    ensures { result ≡ signed_lt (width_of width) a b }
+    ensures { result ≡ signed_lt (width_of width) (low (8 * width) a) (low (8 * width) b) }
 {
     if width == 4 {
         low_word(a).cast_signed() < low_word(b).cast_signed()

@@ -9,20 +9,20 @@ fn high_half(product: i128) -> u64
     ((product >> 64) as i64).cast_unsigned()
 }
 
-pub fn high_signed(a: u64, b: u64) -> u64
-    ensures { result ≡ high_half (cast_signed w64 a *ℤ cast_signed w64 b) }
+pub fn high_signed(a: i64, b: i64) -> u64
+    ensures { result ≡ high_half (a *ℤ b) }
 {
-    high_half(a.cast_signed() as i128 * b.cast_signed() as i128)
+    high_half(i128::from(a) * i128::from(b))
 }
 
-pub fn high_mixed(a: u64, b: u64) -> u64
-    ensures { result ≡ high_half (cast_signed w64 a *ℤ pos b) }
+pub fn high_mixed(a: i64, b: u64) -> u64
+    ensures { result ≡ high_half (a *ℤ pos b) }
 {
-    high_half(a.cast_signed() as i128 * b as i128)
+    high_half(i128::from(a) * i128::from(b))
 }
 
 pub fn high_unsigned(a: u64, b: u64) -> u64
     ensures { result ≡ high_half (pos a *ℤ pos b) }
 {
-    (a as u128 * b as u128 >> 64) as u64
+    (u128::from(a) * u128::from(b) >> 64) as u64
 }

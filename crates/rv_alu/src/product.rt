@@ -20,8 +20,8 @@ pub fn muldiv(op: MulOp, a: u64, b: u64) -> u64
 {
     match op {
         MulOp::Mul => a.wrapping_mul(b),
-        MulOp::Mulh => high_signed(a, b),
-        MulOp::Mulhsu => high_mixed(a, b),
+        MulOp::Mulh => high_signed(a.cast_signed(), b.cast_signed()),
+        MulOp::Mulhsu => high_mixed(a.cast_signed(), b),
         MulOp::Mulhu => high_unsigned(a, b),
         MulOp::Div => divide(a, b),
         MulOp::Divu => divide_unsigned(a, b),
