@@ -1,12 +1,13 @@
 -- What the instructions compute on words, as plain sums, products and quotients of whole numbers.
 --
--- A word of so many bits is a number below 2 to that power. `cast_signed w n` is its value in two's complement, and
--- `cast_unsigned w z` the word of such a value. On those values `int_lt` is the order, `int_shr` divides by a power of two
--- and rounds down, `int_div` rounds towards zero, and `int_rem` has the sign of the dividend.
+-- A word of so many bits is a number below 2 to that power: `bits w32` is 32 and `hbits w32` is 31. `cast_signed w n` is
+-- the value of a word in two's complement, and `cast_unsigned w z` the word of such a value. On those values `int_lt` is
+-- the order, `int_shr` divides by a power of two and rounds down, `int_div` rounds towards zero, and `int_rem` has the
+-- sign of the dividend.
 use Rattle.std.specs.Prelude.{ℕ, ◌+◌, ◌-◌, ◌*◌, ◌%◌, ◌/◌, ◌^◌, ℤ, pos, ◌*ℤ◌, int_lt, int_div, int_rem, Bool, ◌&&◌, ◌==◌, nat_lt, if◌then◌else◌, bit_and, bit_or, bit_xor}
 use Rattle.std.specs.Int.{Width, w32, w64, cast_signed, cast_unsigned, int_shr, from_bool}
 use mir.Val.{bits, hbits}
-use Rattle.flex_base.specs.Word.{low, sign_extend}
+use Rattle.flex_base.specs.Word.{wrap, low, sign_extend}
 use Rattle.flex_base.specs.declared.operation.AluOp.{AluOp}
 use Rattle.flex_base.specs.declared.operation.AluOp.TheVariants as alu
 use Rattle.flex_base.specs.declared.operation.MulOp.{MulOp}
@@ -30,9 +31,9 @@ shift_signed w a amount = cast_unsigned w (int_shr (cast_signed w a) amount)
 -- amount is the low 6 bits of the second operand, and a comparison gives 1 or 0. The word forms work on the low 32 bits,
 -- shift by the low 5, and sign-extend their 32-bit result.
 abbrev pub alu_of : AluOp → ℕ → ℕ → ℕ
-alu_of alu.Add a b = low 64 (a + b)
+alu_of alu.Add a b = wrap (a + b)
 alu_of alu.Sub a b = difference 64 a b
-alu_of alu.Sll a b = low 64 (a * 2 ^ low 6 b)
+alu_of alu.Sll a b = wrap (a * 2 ^ low 6 b)
 alu_of alu.Slt a b = from_bool (signed_lt w64 a b)
 alu_of alu.Sltu a b = from_bool (nat_lt a b)
 alu_of alu.Xor a b = bit_xor a b
@@ -77,7 +78,7 @@ signed_remainder w a b =
 -- Multiplication and division (Volume I, "M"): MUL gives the low half of the product, the other multiplications the high
 -- half, of the operands both signed, the first alone signed, or neither.
 abbrev pub muldiv_of : MulOp → ℕ → ℕ → ℕ
-muldiv_of mul.Mul a b = low 64 (a * b)
+muldiv_of mul.Mul a b = wrap (a * b)
 muldiv_of mul.Mulh a b = high_half (cast_signed w64 a *ℤ cast_signed w64 b)
 muldiv_of mul.Mulhsu a b = high_half (cast_signed w64 a *ℤ pos b)
 muldiv_of mul.Mulhu a b = high_half (pos a *ℤ pos b)

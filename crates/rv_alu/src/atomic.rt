@@ -2,9 +2,8 @@ ghost use Rattle.std.specs.Prelude.{◌≡◌, ℕ, ◌⊎◌, ◌*◌};
 ghost use Rattle.flex_base.specs.Arithmetic.{amo_of, signed_lt, width_of};
 ghost use Rattle.flex_base.specs.Word.{low};
 
-use flex_base::AmoOp;
-
 use crate::half::low_word;
+use flex_base::AmoOp;
 
 /// The word that an atomic memory operation leaves in memory, where `old` stood there and `source`
 /// is the source register.
@@ -23,8 +22,16 @@ pub fn amo(op: AmoOp, old: u64, source: u64, width: u8) -> u64
         AmoOp::Xor => word ^ operand,
         AmoOp::And => word & operand,
         AmoOp::Or => word | operand,
-        AmoOp::Min => if is_less(source, old, width) { operand } else { word },
-        AmoOp::Max => if is_less(old, source, width) { operand } else { word },
+        AmoOp::Min => if is_less(source, old, width) {
+            operand
+        } else {
+            word
+        },
+        AmoOp::Max => if is_less(old, source, width) {
+            operand
+        } else {
+            word
+        },
         AmoOp::Minu => if operand < word { operand } else { word },
         AmoOp::Maxu => if word < operand { operand } else { word },
     }

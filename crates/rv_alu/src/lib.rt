@@ -9,6 +9,8 @@ mod half;
 mod multiplication;
 mod product;
 mod register;
+#[cfg(test)]
+mod tests;
 
 pub use atomic::amo;
 pub use product::muldiv;

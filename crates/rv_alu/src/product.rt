@@ -1,14 +1,13 @@
 ghost use Rattle.std.specs.Prelude.{◌≡◌, ℕ};
 ghost use Rattle.flex_base.specs.Arithmetic.{muldiv_of};
 
-use flex_base::MulOp;
-
 use crate::division::{
     divide, divide_unsigned, divide_word, divide_word_unsigned, remainder, remainder_unsigned,
     remainder_word, remainder_word_unsigned,
 };
 use crate::half::{extend_word, low_word};
 use crate::multiplication::{high_mixed, high_signed, high_unsigned};
+use flex_base::MulOp;
 
 /// The result of a multiplication or a division of two registers.
 ///
