@@ -19,9 +19,9 @@ use Rattle.flex_base.specs.declared.operation.AmoOp.TheVariants as amo
 abbrev pub signed_lt : Width → ℕ → ℕ → Bool
 signed_lt w a b = int_lt (cast_signed w a) (cast_signed w b)
 
--- what a subtraction leaves of so many bits
-abbrev pub difference : ℕ → ℕ → ℕ → ℕ
-difference bits a b = low bits (a + (2 ^ bits - b))
+-- a difference as a word holds it
+abbrev pub difference : Width → ℕ → ℕ → ℕ
+difference w a b = low (bits w) (a + (2 ^ bits w - b))
 
 -- a right shift that copies the sign bit
 abbrev pub shift_signed : Width → ℕ → ℕ → ℕ
@@ -32,7 +32,7 @@ shift_signed w a amount = cast_unsigned w (int_shr (cast_signed w a) amount)
 -- shift by the low 5, and sign-extend their 32-bit result.
 abbrev pub alu_of : AluOp → ℕ → ℕ → ℕ
 alu_of alu.Add a b = wrap (a + b)
-alu_of alu.Sub a b = difference 64 a b
+alu_of alu.Sub a b = difference w64 a b
 alu_of alu.Sll a b = wrap (a * 2 ^ low 6 b)
 alu_of alu.Slt a b = from_bool (signed_lt w64 a b)
 alu_of alu.Sltu a b = from_bool (nat_lt a b)
@@ -42,7 +42,7 @@ alu_of alu.Sra a b = shift_signed w64 a (low 6 b)
 alu_of alu.Or a b = bit_or a b
 alu_of alu.And a b = bit_and a b
 alu_of alu.Addw a b = sign_extend 32 (low 32 (low 32 a + low 32 b))
-alu_of alu.Subw a b = sign_extend 32 (difference 32 (low 32 a) (low 32 b))
+alu_of alu.Subw a b = sign_extend 32 (difference w32 (low 32 a) (low 32 b))
 alu_of alu.Sllw a b = sign_extend 32 (low 32 (low 32 a * 2 ^ low 5 b))
 alu_of alu.Srlw a b = sign_extend 32 (low 32 a / 2 ^ low 5 b)
 alu_of alu.Sraw a b = sign_extend 32 (shift_signed w32 (low 32 a) (low 5 b))

@@ -2,7 +2,7 @@ ghost use Rattle.std.specs.Prelude.{◌≡◌, ℕ, ◌⊎◌, ◌*◌};
 ghost use Rattle.flex_base.specs.Arithmetic.{amo_of, signed_lt, width_of};
 ghost use Rattle.flex_base.specs.Word.{low};
 
-use crate::half::low_word;
+use crate::word::low_word;
 use flex_base::AmoOp;
 
 /// The word that an atomic memory operation leaves in memory, where `old` stood there and `source`

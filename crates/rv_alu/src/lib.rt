@@ -5,12 +5,12 @@
 
 mod atomic;
 mod division;
-mod half;
 mod multiplication;
 mod product;
 mod register;
 #[cfg(test)]
 mod tests;
+mod word;
 
 pub use atomic::amo;
 pub use product::muldiv;

@@ -5,8 +5,8 @@ use crate::division::{
     divide, divide_unsigned, divide_word, divide_word_unsigned, remainder, remainder_unsigned,
     remainder_word, remainder_word_unsigned,
 };
-use crate::half::{extend_word, low_word};
 use crate::multiplication::{high_mixed, high_signed, high_unsigned};
+use crate::word::{extend_word, low_word};
 use flex_base::MulOp;
 
 /// The result of a multiplication or a division of two registers.

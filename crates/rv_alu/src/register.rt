@@ -3,7 +3,7 @@ ghost use Rattle.std.specs.Int.{w32, w64};
 ghost use Rattle.flex_base.specs.Arithmetic.{alu_of, shift_signed};
 ghost use Rattle.flex_base.specs.Word.{low};
 
-use crate::half::{extend_word, low_word};
+use crate::word::{extend_word, low_word};
 use flex_base::AluOp;
 
 /// The result of an integer instruction on two registers, or on a register and an immediate.
