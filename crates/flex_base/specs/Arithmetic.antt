@@ -75,8 +75,8 @@ signed_remainder w a b =
     (if overflows w a b then 0 else
     cast_unsigned w (int_rem (cast_signed w a) (cast_signed w b)))
 
--- Multiplication and division (Volume I, "M"): MUL gives the low half of the product, the other multiplications the high
--- half, of the operands both signed, the first alone signed, or neither.
+-- Multiplication and division (Volume I, "M"). MUL gives the low half of the product; the others give the high half where
+-- both operands are signed (MULH), the first alone is (MULHSU), or neither is (MULHU).
 abbrev pub muldiv_of : MulOp → ℕ → ℕ → ℕ
 muldiv_of mul.Mul a b = wrap (a * b)
 muldiv_of mul.Mulh a b = high_half (cast_signed w64 a *ℤ cast_signed w64 b)
@@ -108,6 +108,6 @@ amo_of_words amo.Maxu w old source = if nat_lt old source then source else old
 abbrev pub width_of : ℕ → Width
 width_of bytes = if bytes == 4 then w32 else w64
 
--- the new value of memory, of so many bytes; of the source register only the bytes of the width count
+-- the new value of memory, of so many bytes; only the bytes of the width count
 abbrev pub amo_of : AmoOp → ℕ → ℕ → ℕ → ℕ
 amo_of op old source width = amo_of_words op (width_of width) (low (8 * width) old) (low (8 * width) source)
