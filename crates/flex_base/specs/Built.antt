@@ -18,6 +18,7 @@ is_built_access other = false
 abbrev pub is_built_class : Class → Bool
 is_built_class class.Alu = true
 is_built_class class.Jump = true
+is_built_class class.Fence = true
 is_built_class other = false
 
 abbrev pub is_built : Want → Bool

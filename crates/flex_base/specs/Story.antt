@@ -1,8 +1,10 @@
 -- The story of one instruction: what a hart does, from the state at the start and the replies so far.
-use Rattle.std.specs.Prelude.{ℕ, ◌+◌, Bool, ◌&&◌, ◌==◌, nat_lt, if◌then◌else◌, List, [], ◌∷◌}
+use Rattle.std.specs.Prelude.{ℕ, ◌+◌, ◌-◌, ◌%◌, Bool, not, ◌&&◌, ◌==◌, nat_lt, if◌then◌else◌, List, [], ◌∷◌}
 use Rattle.flex_base.specs.Word.{wrap, is_multiple}
 use Rattle.flex_base.specs.Place.{in_ram}
 use Rattle.flex_base.specs.Decoding.{decoded}
+use Rattle.flex_base.specs.Arithmetic.{alu_of, signed_lt}
+use Rattle.std.specs.Int.{w64}
 use Rattle.flex_base.specs.State.{State, reg, set_reg}
 use Rattle.flex_base.specs.Setup.{Setup}
 use Rattle.flex_base.specs.declared.access.Access.{Access}
@@ -13,7 +15,8 @@ use Rattle.flex_base.specs.declared.class.Class.TheVariants as class
 use Rattle.flex_base.specs.declared.event.EndPart.{EndPart}
 use Rattle.flex_base.specs.declared.operation.Op.{Op}
 use Rattle.flex_base.specs.declared.operation.Op.TheVariants as op
-use Rattle.flex_base.specs.declared.operation.AluOp.TheVariants as alu
+use Rattle.flex_base.specs.declared.operation.BranchOp.{BranchOp}
+use Rattle.flex_base.specs.declared.operation.BranchOp.TheVariants as branch
 
 -- what a hart wants next: an access, an end that leaves a state, or nothing any more. What is to come later has no meaning yet
 pub data Want : Type 0 where
@@ -43,10 +46,43 @@ traps a cause tval = ComesLater
 abbrev pub jumps : State → ℕ → ℕ → Story
 jumps a target rd = if is_multiple target 4 then ends a class.Jump target rd (wrap (a.pc + 4)) else traps a 0 target
 
+-- an end that goes on at the next instruction and writes no register
+abbrev pub passes : State → Class → Story
+passes a class = ends a class (wrap (a.pc + 4)) 0 0
+
+-- an end that goes on at the next instruction with a computed value (Volume I, "Integer Computational Instructions")
+abbrev pub computes : State → ℕ → ℕ → Story
+computes a rd value = ends a class.Alu (wrap (a.pc + 4)) rd value
+
+-- an address without its lowest bit
+abbrev pub even : ℕ → ℕ
+even address = address - address % 2
+
+-- a branch is taken by the order of its two operands (Volume I, "Conditional Branches")
+abbrev pub is_taken : BranchOp → ℕ → ℕ → Bool
+is_taken branch.Eq x y = x == y
+is_taken branch.Ne x y = not (x == y)
+is_taken branch.Lt x y = signed_lt w64 x y
+is_taken branch.Ge x y = not (signed_lt w64 x y)
+is_taken branch.Ltu x y = nat_lt x y
+is_taken branch.Geu x y = not (nat_lt x y)
+
+-- a taken branch is a jump that links nothing
+abbrev pub branches : State → Bool → ℕ → Story
+branches a taken target = if taken then jumps a target 0 else passes a class.Jump
+
 -- the work of a decoded instruction
 abbrev pub works : Setup → State → Op → Story
-works setup a (op.AluImm alu.Add rd rs1 imm) = ends a class.Alu (wrap (a.pc + 4)) rd (wrap (reg a rs1 + imm))
+works setup a (op.Lui rd imm) = computes a rd imm
+works setup a (op.Auipc rd imm) = computes a rd (wrap (a.pc + imm))
+works setup a (op.AluImm does rd rs1 imm) = computes a rd (alu_of does (reg a rs1) imm)
+works setup a (op.AluReg does rd rs1 rs2) = computes a rd (alu_of does (reg a rs1) (reg a rs2))
 works setup a (op.Jal rd imm) = jumps a (wrap (a.pc + imm)) rd
+works setup a (op.Jalr rd rs1 imm) = jumps a (even (wrap (reg a rs1 + imm))) rd
+works setup a (op.Branch compares rs1 rs2 imm) = branches a (is_taken compares (reg a rs1) (reg a rs2)) (wrap (a.pc + imm))
+works setup a (op.Fence free) = passes a class.Fence
+works setup a (op.FenceI free) = passes a class.Fence
+works setup a (op.Illegal word) = traps a 2 word
 works setup a other = ComesLater
 
 -- the fetch; in mode M no address is translated

@@ -3,9 +3,9 @@ use Rattle.std.proofs.Common.{◌≡◌, ◌≢◌, ℕ, ◌+◌, ◌%◌, ◌^�
 use Rattle.flex_base.specs.Word.{is_multiple}
 use Rattle.flex_base.specs.Place.{in_ram}
 use Rattle.flex_base.specs.Setup.{Setup}
-use Rattle.flex_base.specs.State.{State}
+use Rattle.flex_base.specs.State.{State, reg}
 use Rattle.flex_base.specs.Decoding.{decoded}
-use Rattle.flex_base.specs.Story.{Asks, Ends, story, works, jumps, ends, traps, want, ask}
+use Rattle.flex_base.specs.Story.{Asks, Ends, story, works, jumps, branches, is_taken, even, ends, traps, want, ask}
 use Rattle.flex_base.specs.Built.{is_built_access}
 use Rattle.flex_base.specs.declared.access.Access.{Access}
 use Rattle.flex_base.specs.declared.access.Reply.{Reply}
@@ -23,10 +23,15 @@ jumps_closes : (a : State) (target rd : ℕ) (access : Access) → want (jumps a
 jumps_closes a target rd access = elim (is_multiple target 4) as (λ b. want (if b then ends a class.Jump target rd ((a.pc + 4) % 2 ^ 64) else traps a 0 target) ≡ Asks access → ⊥)
     [ true ↦ λ e. cc | false ↦ λ e. cc ]
 
+branches_close : (a : State) (taken : Bool) (target : ℕ) (access : Access) → want (branches a taken target) ≡ Asks access → ⊥
+branches_close a true target access e = jumps_closes a target 0 access e
+branches_close a false target access e = cc
+
 -- once the word is fetched there is no access any more
 pub works_closes : (setup : Setup) (a : State) (o : Op) (access : Access) → want (works setup a o) ≡ Asks access → ⊥
-works_closes setup a (op.AluImm alu.Add rd rs1 imm) access e = cc
 works_closes setup a (op.Jal rd imm) access e = jumps_closes a ((a.pc + imm) % 2 ^ 64) rd access e
+works_closes setup a (op.Jalr rd rs1 imm) access e = jumps_closes a (even ((reg a rs1 + imm) % 2 ^ 64)) rd access e
+works_closes setup a (op.Branch compares rs1 rs2 imm) access e = branches_close a (is_taken compares (reg a rs1) (reg a rs2)) ((a.pc + imm) % 2 ^ 64) access e
 works_closes setup a other access e = cc
 
 begun_by : (setup : Setup) (a : State) (p : Progress) (access : Access) → want (node setup a p) ≡ Asks access → p ≡ progress.Begun

@@ -1,3 +1,7 @@
+ghost use Rattle.std.specs.Prelude.{◌≡◌};
+ghost use Rattle.flex_base.specs.State.{State, reg};
+ghost use Rattle.hart_story.specs.StandsFor.{StandsFor};
+
 use flex_base::HartId;
 
 /// A hart at the start of an instruction.
@@ -26,5 +30,15 @@ impl Hart {
             x,
             ends: 0,
         }
+    }
+}
+
+// The value of a register.
+pub(crate) fn read(hart: &Hart, r: u8) -> u64
+    ensures { (a : State) → StandsFor hart.now a → result ≡ reg a r }
+{
+    match r {
+        0 => 0,
+        _ => hart.x.get(r as usize).copied().unwrap_or(0),
     }
 }

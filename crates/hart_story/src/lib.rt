@@ -3,7 +3,9 @@
 #![tactic(auto)]
 
 mod hart;
+mod jump;
 mod progress;
+mod register;
 mod story;
 mod work;
 

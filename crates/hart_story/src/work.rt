@@ -1,14 +1,16 @@
-ghost use Rattle.std.specs.Prelude.{◌≡◌, ◌+◌};
+ghost use Rattle.std.specs.Prelude.{◌≡◌};
 ghost use Rattle.flex_base.specs.Setup.{Setup};
-ghost use Rattle.flex_base.specs.State.{State, reg};
-ghost use Rattle.flex_base.specs.Story.{works, ends, jumps};
-ghost use Rattle.flex_base.specs.Word.{wrap};
+ghost use Rattle.flex_base.specs.State.{State};
+ghost use Rattle.flex_base.specs.Story.{works};
 ghost use Rattle.flex_base.specs.Decoding.{decoded};
 ghost use Rattle.hart_story.specs.StandsFor.{StandsFor};
 ghost use Rattle.hart_story.specs.Telling.{outcome_of, IsSoundOutcome};
 
-use crate::hart::Hart;
-use flex_base::{AluOp, Class, Op};
+use crate::hart::{Hart, read};
+use crate::jump::{branch, even, jump};
+use crate::register::{computed, passed};
+use flex_base::{Class, Op};
+use rv_alu::alu;
 use rv_decode::decode;
 
 /// What the work of a decoded instruction comes to.
@@ -30,50 +32,18 @@ pub(crate) fn work(hart: &Hart, word: u32) -> Outcome
     ensures sound { IsSoundOutcome hart.now result }
 {
     match decode(word) {
-        Op::AluImm { op, rd, rs1, imm } => match op {
-            AluOp::Add => computed(hart, rd, read(hart, rs1).wrapping_add(imm)),
-            _ => Outcome::Unbuilt,
-        },
+        Op::Lui { rd, imm } => computed(hart, rd, imm),
+        Op::Auipc { rd, imm } => computed(hart, rd, hart.pc.wrapping_add(imm)),
+        Op::AluImm { op, rd, rs1, imm } => computed(hart, rd, alu(op, read(hart, rs1), imm)),
+        Op::AluReg { op, rd, rs1, rs2 } => {
+            computed(hart, rd, alu(op, read(hart, rs1), read(hart, rs2)))
+        }
         Op::Jal { rd, imm } => jump(hart, hart.pc.wrapping_add(imm), rd),
+        Op::Jalr { rd, rs1, imm } => jump(hart, even(read(hart, rs1).wrapping_add(imm)), rd),
+        Op::Branch { op, rs1, rs2, imm } => {
+            branch(hart, op, read(hart, rs1), read(hart, rs2), hart.pc.wrapping_add(imm))
+        }
+        Op::Fence { .. } | Op::FenceI { .. } => passed(hart, Class::Fence),
         _ => Outcome::Unbuilt,
-    }
-}
-
-// The value of a register.
-fn read(hart: &Hart, r: u8) -> u64
-    ensures { (a : State) → StandsFor hart.now a → result ≡ reg a r }
-{
-    match r {
-        0 => 0,
-        _ => hart.x.get(r as usize).copied().unwrap_or(0),
-    }
-}
-
-// An end that computed a value.
-fn computed(hart: &Hart, rd: u8, value: u64) -> Outcome
-    ensures works { (a : State) → StandsFor hart.now a → outcome_of a result ≡ ends a Class.Alu (wrap (a.pc + 4)) rd value }
-    ensures sound { IsSoundOutcome hart.now result }
-{
-    Outcome::End {
-        class: Class::Alu,
-        next: hart.pc.wrapping_add(4),
-        rd,
-        value,
-    }
-}
-
-// A jump, which links the next instruction. To a misaligned address it is an exception.
-fn jump(hart: &Hart, target: u64, rd: u8) -> Outcome
-    ensures works { (a : State) → StandsFor hart.now a → outcome_of a result ≡ jumps a target rd }
-    ensures sound { IsSoundOutcome hart.now result }
-{
-    if target % 4 != 0 {
-        return Outcome::Unbuilt;
-    }
-    Outcome::End {
-        class: Class::Jump,
-        next: target,
-        rd,
-        value: hart.pc.wrapping_add(4),
     }
 }

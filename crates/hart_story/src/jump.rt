@@ -1,0 +1,58 @@
+ghost use Rattle.std.specs.Prelude.{◌≡◌};
+ghost use Rattle.flex_base.specs.State.{State};
+ghost use Rattle.flex_base.specs.Story.{jumps, branches, is_taken, even};
+ghost use Rattle.hart_story.specs.StandsFor.{StandsFor};
+ghost use Rattle.hart_story.specs.Telling.{outcome_of, IsSoundOutcome};
+
+use crate::hart::Hart;
+use crate::register::passed;
+use crate::work::Outcome;
+use flex_base::{BranchOp, Class};
+
+// A jump, which links the next instruction. To a misaligned address it is an exception.
+pub(crate) fn jump(hart: &Hart, target: u64, rd: u8) -> Outcome
+    ensures works { (a : State) → StandsFor hart.now a → outcome_of a result ≡ jumps a target rd }
+    ensures sound { IsSoundOutcome hart.now result }
+{
+    if target % 4 != 0 {
+        return Outcome::Unbuilt;
+    }
+    Outcome::End {
+        class: Class::Jump,
+        next: target,
+        rd,
+        value: hart.pc.wrapping_add(4),
+    }
+}
+
+// A conditional branch on these two values.
+pub(crate) fn branch(hart: &Hart, op: BranchOp, x: u64, y: u64, target: u64) -> Outcome
+    ensures works { (a : State) → StandsFor hart.now a → outcome_of a result ≡ branches a (is_taken op x y) target }
+    ensures sound { IsSoundOutcome hart.now result }
+{
+    if takes(op, x, y) {
+        jump(hart, target, 0)
+    } else {
+        passed(hart, Class::Jump)
+    }
+}
+
+fn takes(op: BranchOp, x: u64, y: u64) -> bool
+    ensures { result ≡ is_taken op x y }
+{
+    match op {
+        BranchOp::Eq => x == y,
+        BranchOp::Ne => x != y,
+        BranchOp::Lt => x.cast_signed() < y.cast_signed(),
+        BranchOp::Ge => x.cast_signed() >= y.cast_signed(),
+        BranchOp::Ltu => x < y,
+        BranchOp::Geu => x >= y,
+    }
+}
+
+// The address without its lowest bit.
+pub(crate) fn even(address: u64) -> u64
+    ensures { result ≡ even address }
+{
+    address - address % 2
+}
