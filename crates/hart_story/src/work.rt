@@ -41,7 +41,13 @@ pub(crate) fn work(hart: &Hart, word: u32) -> Outcome
         Op::Jal { rd, imm } => jump(hart, hart.pc.wrapping_add(imm), rd),
         Op::Jalr { rd, rs1, imm } => jump(hart, even(read(hart, rs1).wrapping_add(imm)), rd),
         Op::Branch { op, rs1, rs2, imm } => {
-            branch(hart, op, read(hart, rs1), read(hart, rs2), hart.pc.wrapping_add(imm))
+            branch(
+                hart,
+                op,
+                read(hart, rs1),
+                read(hart, rs2),
+                hart.pc.wrapping_add(imm),
+            )
         }
         Op::Fence { .. } | Op::FenceI { .. } => passed(hart, Class::Fence),
         _ => Outcome::Unbuilt,
