@@ -105,6 +105,18 @@ fn makes_instructions(rt: HostRuntime) {
         (0x00150513, Class::Alu, 0x8000_001c, 10, 4),
         // jal x2, -28
         (0xfe5ff16f, Class::Jump, 0x8000_0000, 2, 0x8000_0020),
+        // auipc x7, 1
+        (0x00001397, Class::Alu, 0x8000_0004, 7, 0x8000_1000),
+        // jalr x8, 5(x7)
+        (0x00538467, Class::Jump, 0x8000_1004, 8, 0x8000_0008),
+        // bltu x5, x7, -4
+        (0xfe72eee3, Class::Jump, 0x8000_1000, 0, 0),
+        // blt x5, x6, 8
+        (0x0062c463, Class::Jump, 0x8000_1004, 0, 0),
+        // sraiw x9, x6, 4
+        (0x4043549b, Class::Alu, 0x8000_1008, 9, minus_1),
+        // fence
+        (0x0ff0000f, Class::Fence, 0x8000_100c, 0, 0),
     ];
     for (word, class, next, first, second) in table {
         let part = EndPart {
@@ -120,13 +132,16 @@ fn makes_instructions(rt: HostRuntime) {
     registers[2] = 0x8000_0020;
     registers[5] = 7;
     registers[6] = minus_1;
+    registers[7] = 0x8000_1000;
+    registers[8] = 0x8000_0008;
+    registers[9] = minus_1;
     registers[10] = 4;
     assert_eq!(rt;
         hart,
         Hart {
-            pc: 0x8000_0000,
+            pc: 0x8000_100c,
             x: registers,
-            ends: 8
+            ends: 14
         }
     );
 }
@@ -180,7 +195,23 @@ fn needs_after_the_fetch(rt: &impl Abort) {
         (0x0000006f, Need::Finish(Class::Jump)),
         // jal x0, 2
         (0x0020006f, Need::Unbuilt),
-        // no instruction
+        // jalr x1, 3(x0), whose lowest bit is cleared
+        (0x003000e7, Need::Unbuilt),
+        // beq x0, x0, 8 and bne x0, x0, 2
+        (0x00000463, Need::Finish(Class::Jump)),
+        (0x00001163, Need::Finish(Class::Jump)),
+        // beq x0, x0, 2
+        (0x00000163, Need::Unbuilt),
+        // fence and fence.i
+        (0x0ff0000f, Need::Finish(Class::Fence)),
+        (0x0000100f, Need::Finish(Class::Fence)),
+        // lui x5, 1 and sub x5, x6, x7
+        (0x000012b7, Need::Finish(Class::Alu)),
+        (0x407302b3, Need::Finish(Class::Alu)),
+        // lw x5, 0(x6), mul x5, x6, x7, ecall and no instruction
+        (0x00032283, Need::Unbuilt),
+        (0x027302b3, Need::Unbuilt),
+        (0x00000073, Need::Unbuilt),
         (0x00000000, Need::Unbuilt),
     ];
     for (word, want) in table {
