@@ -1,0 +1,4 @@
+pub mod Covering
+pub mod Storing
+pub mod Dealing
+pub mod Replays
