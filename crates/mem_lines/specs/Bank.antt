@@ -1,11 +1,11 @@
 -- One bank of memory, as contracts see it, and what it stands for.
-use Rattle.std.specs.Prelude.{◌≡◌, ℕ, ◌+◌, ◌-◌, ◌*◌, ◌/◌, ◌%◌, ◌<◌, ◌≤◌, Bool, true, ◌==◌, List, length, slice_index, slice_index_or, Option, None}
+use Rattle.std.specs.Prelude.{◌≡◌, ℕ, ◌+◌, ◌-◌, ◌*◌, ◌/◌, ◌%◌, ◌<◌, ◌≤◌, Bool, true, ◌==◌, if◌then◌else◌, List, length, slice_index, slice_index_or, Option, None}
 use Rattle.flex_base.specs.Limits.{mebibyte}
 use Rattle.flex_base.specs.Word.{is_multiple}
 use Rattle.flex_base.specs.Place.{ram_base, in_ram}
 use Rattle.flex_base.specs.Setup.{Setup}
 use Rattle.flex_base.specs.Forms.{IsWidth}
-use Rattle.flex_base.specs.FlatMemory.{Done, byte, reservation_of}
+use Rattle.flex_base.specs.FlatMemory.{Done, byte, covers, reservation_of}
 use Rattle.flex_base.specs.declared.access.Access.{Access}
 use Rattle.flex_base.specs.declared.access.Access.TheVariants as acc
 
@@ -76,3 +76,7 @@ pub record IsWhole (ram banks : ℕ) (bytes : List ℕ) : Type 0 where
   pub mebibytes : is_multiple ram mebibyte ≡ true
   pub small : ram ≤ 256 * mebibyte
   pub part : length bytes ≡ ram / banks
+
+-- what a part of the image leaves of the byte at an address
+abbrev pub laid : ℕ → ℕ → ℕ × List ℕ → ℕ
+laid address old part = if covers part.0 (length part.1) address then slice_index part.1 (address - part.0) else old

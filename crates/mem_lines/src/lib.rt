@@ -4,6 +4,7 @@
 //! reservation of its last load-reserved. All memory is taken when the bank is made.
 #![tactic(auto)]
 
+mod image_bytes;
 mod lines;
 mod little_endian;
 mod reservations;

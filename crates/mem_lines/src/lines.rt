@@ -7,11 +7,13 @@ ghost use Rattle.flex_base.specs.FlatMemory.{Done, is_ram_access, byte, flat, va
 ghost use Rattle.mem_lines.specs.Bank.{Bank, is_bank_count, bank_of, spot, held, reserved, IsIn, IsReplay, IsBank, IsSame, address_of};
 ghost use Rattle.mem_lines.specs.Steps.{done, IsSpan, IsHere, Follows, reply_of};
 
+use crate::image_bytes::bank_bytes;
 use crate::little_endian::{load, store};
 use crate::reservations::{end_others, granule_of, stands};
 use crate::spots::spot;
-use flex_base::{Access, AmoOp, HartId, Reply};
+use flex_base::{Access, AmoOp, HartId, Image, Reply, Settings};
 use rv_alu::amo;
+use std::alloc::{AllocError, Global};
 use std::marker::Model;
 
 /// One bank of memory: its 64-byte lines, and the reservations of the harts.
@@ -39,6 +41,35 @@ impl Model for Lines {
 }
 
 impl Lines {
+    /// The bank of this number, of so many, with the bytes of the image and no reservation.
+    ///
+    /// The settings are lawful and the image fits their RAM. The number of banks is a power of two
+    /// from 1 to 64, and the bank is below it. An error means that memory ran out.
+    pub fn new(
+        alloc: Global,
+        image: &Image,
+        settings: &Settings,
+        banks: u8,
+        bank: u8,
+    ) -> Result<Lines, AllocError>
+        requires lawful { is_lawful settings.now ≡ true }
+        requires fits { image_fits settings.now.ram image.now ≡ true }
+        requires banks { is_bank_count banks ≡ true }
+        requires bank { bank < banks }
+        ensures bank { IfOk result (λ lines. IsBank settings.now.ram banks bank lines) }
+        ensures replay { IfOk result (λ lines. (setup : Setup) → setup.image ≡ image.now → setup.ram ≡ settings.now.ram → IsReplay setup [] lines) }
+    {
+        let ram = settings.ram;
+        let bytes = bank_bytes(alloc, ram, banks, bank, &image.parts)?;
+        Ok(Lines {
+            ram,
+            banks,
+            bank,
+            bytes,
+            places: [None; 32],
+        })
+    }
+
     /// Makes an access of RAM in this bank, by one of the harts, and replies.
     ///
     /// The bytes of the access are aligned. A store-conditional writes where the reservation of its
