@@ -1,5 +1,5 @@
 -- Where a bank holds the bytes of its addresses.
-use Rattle.std.proofs.Common.{◌≡◌, ℕ, zero, suc, ◌⊎◌, List, length, slice_index, Option, ◌+◌, ◌-◌, ◌*◌, ◌/◌, ◌%◌, ◌<◌, ◌≤◌, Bool, true, false, ◌==◌, ◌||◌, ◌&&◌, refl, ap, sym, subst, ◌∙◌, arith, inl, inr, mul_assoc, mul_comm, mul_right_comm, div-add-mod', le-div_iff_mul-le}
+use Rattle.std.proofs.Common.{◌≡◌, ℕ, zero, suc, ◌⊎◌, List, length, slice_index, Option, ◌+◌, ◌-◌, ◌*◌, ◌/◌, ◌%◌, ◌^◌, ◌<◌, ◌≤◌, Bool, true, false, ◌==◌, ◌||◌, ◌&&◌, refl, ap, sym, subst, ◌∙◌, arith, inl, inr, mul_assoc, mul_comm, mul_right_comm, div-add-mod', le-div_iff_mul-le}
 use Rattle.std.proofs.Math.Nat.{add-mul-mod_self_right}
 use Rattle.std.proofs.lemmas.Bool.{cases_eq}
 use Rattle.std.proofs.lemmas.Nat.{same_from_place, div_below, le-div}
@@ -85,21 +85,36 @@ byte_within ram banks bank a bytes places whole inside =
     let within = spot_within banks ram a whole.banks_are whole.mebibytes above below in
     (some_banks banks whole.banks_are, above, subst (λ n. spot banks a < n) (sym whole.part) within)
 
--- a load's or a store's bytes lie in one line
-in_line : (a width : ℕ) → IsWidth width → is_multiple a width ≡ true → (a % 64 + width ≤ 64) × (width ≤ 8) × (0 < width)
-in_line a width one aligned = elim (eqb_tells width 1) [
-  | inl w ↦ (omega (arith, w.1), omega (arith, w.1), omega (arith, w.1))
+-- what is so of each width
+by_width : (P : ℕ → Type 0) → P 1 → P 2 → P 4 → P 8 → (width : ℕ) → IsWidth width → P width
+by_width P one two four eight width is = elim (eqb_tells width 1) [
+  | inl w ↦ subst P (sym w.1) one
   | inr no1 ↦ elim (eqb_tells width 2) [
-    | inl w ↦ let e : a % 2 ≡ 0 = (Decides-eqb (a % 2) 0).0 (subst (λ n. is_multiple a n ≡ true) w.1 aligned) in (omega (arith, w.1, e), omega (arith, w.1), omega (arith, w.1))
+    | inl w ↦ subst P (sym w.1) two
     | inr no2 ↦ elim (eqb_tells width 4) [
-      | inl w ↦ let e : a % 4 ≡ 0 = (Decides-eqb (a % 4) 0).0 (subst (λ n. is_multiple a n ≡ true) w.1 aligned) in (omega (arith, w.1, e), omega (arith, w.1), omega (arith, w.1))
+      | inl w ↦ subst P (sym w.1) four
       | inr no4 ↦ elim (eqb_tells width 8) [
-        | inl w ↦ let e : a % 8 ≡ 0 = (Decides-eqb (a % 8) 0).0 (subst (λ n. is_multiple a n ≡ true) w.1 aligned) in (omega (arith, w.1, e), omega (arith, w.1), omega (arith, w.1))
-        | inr no8 ↦ absurd (grind (arith, no1.0, no2.0, no4.0, no8.0, one))
+        | inl w ↦ subst P (sym w.1) eight
+        | inr no8 ↦ absurd (grind (arith, no1.0, no2.0, no4.0, no8.0, is))
       ]
     ]
   ]
 ]
+
+remainder : (a width : ℕ) → is_multiple a width ≡ true → a % width ≡ 0
+remainder a width aligned = (Decides-eqb (a % width) 0).0 aligned
+
+-- a load's or a store's bytes lie in one line
+in_line : (a width : ℕ) → IsWidth width → is_multiple a width ≡ true → (a % 64 + width ≤ 64) × (width ≤ 8) × (0 < width)
+in_line a = by_width (λ w. is_multiple a w ≡ true → (a % 64 + w ≤ 64) × (w ≤ 8) × (0 < w))
+    (λ aligned. (omega arith, omega arith, omega arith))
+    (λ aligned. let e = remainder a 2 aligned in (omega (arith, e), omega arith, omega arith))
+    (λ aligned. let e = remainder a 4 aligned in (omega (arith, e), omega arith, omega arith))
+    (λ aligned. let e = remainder a 8 aligned in (omega (arith, e), omega arith, omega arith))
+
+-- so many bytes have eight times as many bits
+pub in_bits : (width : ℕ) → IsWidth width → (n : ℕ) → n < 256 ^ width → n < 2 ^ (8 * width)
+in_bits = by_width (λ w. (n : ℕ) → n < 256 ^ w → n < 2 ^ (8 * w)) (λ n below. below) (λ n below. below) (λ n below. below) (λ n below. below)
 
 -- what a load or a store of so many bytes has to know
 pub record Span (b : Bank) (address width : ℕ) : Type 0 where

@@ -1,8 +1,8 @@
-ghost use Rattle.std.specs.Prelude.{◌≡◌, ℕ, ◌+◌, ◌<◌, ◌≤◌, ◌⊎◌, true, ◌==◌, if◌then◌else◌, List, [], ◌∷◌, ◌++◌, length, IfOk};
+ghost use Rattle.std.specs.Prelude.{◌≡◌, ℕ, ◌+◌, ◌*◌, ◌^◌, ◌<◌, ◌≤◌, ◌⊎◌, true, ◌==◌, if◌then◌else◌, List, [], ◌∷◌, ◌++◌, length, IfOk};
 ghost use Rattle.flex_base.specs.Limits.{is_lawful};
 ghost use Rattle.flex_base.specs.Loaded.{image_fits};
 ghost use Rattle.flex_base.specs.Setup.{Setup};
-ghost use Rattle.flex_base.specs.Forms.{IsPlaced};
+ghost use Rattle.flex_base.specs.Forms.{HasForm};
 ghost use Rattle.flex_base.specs.FlatMemory.{Done, is_ram_access, byte, flat, value_at, put, broken, granule, is_reserved, reply_with};
 ghost use Rattle.mem_lines.specs.Bank.{Bank, is_bank_count, bank_of, spot, held, reserved, IsIn, IsReplay, IsBank, IsSame, address_of};
 ghost use Rattle.mem_lines.specs.Steps.{done, IsSpan, IsHere, Follows, reply_of};
@@ -70,18 +70,17 @@ impl Lines {
         })
     }
 
-    /// Makes an access of RAM in this bank, by one of the harts, and replies.
+    /// Makes an access of RAM in this bank, by a hart below 32, and replies.
     ///
-    /// The bytes of the access are aligned. A store-conditional writes where the reservation of its
+    /// The bytes of the access are 1, 2, 4 or 8, those of an atomic operation 4 or 8, and aligned. A store-conditional writes where the reservation of its
     /// hart stands, and replies 0; else it replies 1 (Volume I, "Load-Reserved/Store-Conditional
     /// Instructions").
     pub fn act(&mut self, hart: HartId, acc: &Access) -> Reply
         requires hart { hart.0 < 32 }
-        requires ram { is_ram_access acc.now ≡ true }
-        requires placed { (setup : Setup) × (setup.ram ≡ self.old.ram) × IsPlaced setup acc.now }
-        requires bank { bank_of self.old.banks (address_of acc.now) ≡ self.old.bank }
+        requires here { IsHere self.old acc.now }
         ensures flat { (setup : Setup) (made : List Done) → IsReplay setup made self.old → result ≡ flat setup.image made hart.0 acc.now }
         ensures replay { (setup : Setup) (made : List Done) → IsReplay setup made self.old → IsReplay setup (made ++ done hart.0 acc.now result ∷ []) self.new }
+        ensures form { HasForm acc.now result }
         ensures same { IsSame self.old self.new }
     {
         self.make(hart.0, acc)
@@ -117,7 +116,8 @@ impl Lines {
     // The little-endian value of so many bytes from the address up.
     fn value(&self, address: u64, width: u8) -> u64
         requires span { IsSpan self.now address width }
-        ensures { result ≡ value_at (held self.now) address width }
+        ensures value { result ≡ value_at (held self.now) address width }
+        ensures fits { result < 2 ^ (8 * width) }
     {
         let start = self.start(address, width);
         load(&self.bytes, start, width as usize)
@@ -140,6 +140,7 @@ impl Lines {
         requires hart { hart < 32 }
         requires here { IsHere self.old acc.now }
         ensures reply { result ≡ reply_of self.old hart acc.now }
+        ensures form { HasForm acc.now result }
         ensures follows { Follows (done hart acc.now result) self.old self.new }
     {
         match *acc {
@@ -175,6 +176,7 @@ impl Lines {
         requires hart { hart < 32 }
         requires span { IsSpan self.old address width }
         ensures reply { result ≡ reply_of self.old hart (Access.Lr address width) }
+        ensures form { HasForm (Access.Lr address width) result }
         ensures follows { Follows (done hart (Access.Lr address width) result) self.old self.new }
     {
         let value = self.value(address, width);
@@ -186,6 +188,7 @@ impl Lines {
         requires hart { hart < 32 }
         requires span { IsSpan self.old address width }
         ensures reply { result ≡ reply_of self.old hart (Access.Sc address width value) }
+        ensures form { HasForm (Access.Sc address width value) result }
         ensures follows { Follows (done hart (Access.Sc address width value) result) self.old self.new }
     {
         if self.has_reserved(hart, address) {
@@ -203,6 +206,7 @@ impl Lines {
         requires atomic { (width ≡ 4) ⊎ (width ≡ 8) }
         requires span { IsSpan self.old address width }
         ensures reply { result ≡ reply_of self.old hart (Access.Amo op address width value) }
+        ensures form { HasForm (Access.Amo op address width value) result }
         ensures follows { Follows (done hart (Access.Amo op address width value) result) self.old self.new }
     {
         let old = self.value(address, width);
