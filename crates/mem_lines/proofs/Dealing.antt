@@ -187,7 +187,8 @@ span_put b address width value a count span inside =
           let next : spot b.banks (address + (a - address)) ≡ at + (a - address) = spot_next b.banks address (a - address) s.above (omega (arith, here.1)) in
           let place : i ≡ at + (a - address) = ap (spot b.banks) (omega (arith, here.1)) ∙ next in
           inl (covers_at at width i (omega arith) (omega (arith, here.1)), here.0, omega arith)
-      | inr away ↦ inr (elim (cases_covers at width i) [
+      | inr away ↦ inr (
+        elim (cases_covers at width i) [
           | inl there ↦
               let next = spot_next b.banks address (i - at) s.above (omega (arith, there.1)) in
               let bank : bank_of b.banks (address + (i - at)) ≡ bank_of b.banks a = bank_next b.banks address (i - at) (omega (arith, there.1)) ∙ span.bank_is ∙ sym inside.bank in
@@ -195,7 +196,9 @@ span_put b address width value a count span inside =
               let one = spot_apart b.banks (address + (i - at)) a count (omega arith) above bank spots in
               absurd (away.1 (omega (arith, there.1), omega (arith, there.1)))
           | inr other ↦ other.0
-        ], away.0)
+        ],
+        away.0,
+      )
     ])
 
 -- what a store leaves of the fields, seen as the bank

@@ -243,3 +243,6 @@ fn told(value: u64) -> Reply
         stop: false,
     }
 }
+
+#[cfg(test)]
+mod tests;
