@@ -1,11 +1,11 @@
 -- Where a bank holds the bytes of its addresses.
-use Rattle.std.proofs.Common.{◌≡◌, ℕ, zero, suc, ◌⊎◌, List, length, slice_index, Option, ◌+◌, ◌-◌, ◌*◌, ◌/◌, ◌%◌, ◌^◌, ◌<◌, ◌≤◌, Bool, true, false, ◌==◌, ◌||◌, ◌&&◌, refl, ap, sym, subst, ◌∙◌, arith, inl, inr, mul_assoc, mul_comm, mul_right_comm, div-add-mod', le-div_iff_mul-le}
+use Rattle.std.proofs.Common.{◌≡◌, ℕ, zero, suc, ◌⊎◌, List, length, slice_index, Option, ◌+◌, ◌-◌, ◌*◌, ◌/◌, ◌%◌, ◌^◌, ◌<◌, ◌≤◌, true, false, refl, ap, sym, subst, ◌∙◌, arith, inl, inr, mul_assoc, mul_right_comm, div-add-mod'}
 use Rattle.std.proofs.Math.Nat.{add-mul-mod_self_right}
 use Rattle.std.proofs.lemmas.Bool.{cases_eq}
 use Rattle.std.proofs.lemmas.Nat.{same_from_place, div_below, le-div}
 use Rattle.std.proofs.lemmas.Bool.Decides.{eqb_tells, nat_tests, Decides-eqb}
 use Rattle.flex_base.specs.Limits.{mebibyte}
-use Rattle.flex_base.specs.Place.{ram_base, in_ram}
+use Rattle.flex_base.specs.Place.{ram_base}
 use Rattle.flex_base.specs.Word.{is_multiple}
 use Rattle.flex_base.specs.Forms.{IsWidth}
 use Rattle.flex_base.specs.FlatMemory.{value_at, covers, put}

@@ -1,5 +1,5 @@
 -- A bank stays the replay of the accesses.
-use Rattle.std.proofs.Common.{◌≡◌, ℕ, ◌<◌, Bool, true, false, ◌||◌, ◌==◌, ◌⊎◌, ◌+◌, if◌then◌else◌, List, [], ◌∷◌, ◌++◌, Option, None, refl, ap, sym, subst, ◌∙◌, inl, inr, arith}
+use Rattle.std.proofs.Common.{◌≡◌, ℕ, ◌<◌, true, ◌⊎◌, ◌+◌, if◌then◌else◌, List, [], ◌∷◌, ◌++◌, None, refl, ap, sym, subst, ◌∙◌, inl, inr, arith}
 use Rattle.std.proofs.lemmas.Bool.Decides.{eqb_tells}
 use Rattle.std.proofs.lemmas.List.Sums.{fold_push}
 use Rattle.flex_base.specs.Place.{in_ram}
@@ -8,9 +8,8 @@ use Rattle.flex_base.specs.Forms.{IsPlaced, IsAlignedRam, IsWidth, IsAtomicWidth
 use Rattle.flex_base.specs.FlatMemory.{Done, is_ram_access, left_by, image_byte, byte, reserved_by, value_at, flat, granule, is_reserved, reply_with}
 use Rattle.flex_base.specs.declared.access.Access.{Access}
 use Rattle.flex_base.specs.declared.access.Access.TheVariants as acc
-use Rattle.flex_base.specs.declared.access.Reply.{Reply}
-use Rattle.mem_lines.specs.Bank.{Bank, IsIn, IsReplay, IsBank, IsSame, held, reserved, bank_of, address_of}
-use Rattle.mem_lines.specs.Steps.{done, IsSpan, IsHere, Follows, reply_of}
+use Rattle.mem_lines.specs.Bank.{Bank, IsIn, IsReplay, IsSame, held, bank_of, address_of}
+use Rattle.mem_lines.specs.Steps.{IsSpan, IsHere, Follows, reply_of}
 use Rattle.mem_lines.proofs.Dealing.{value_same, span_in}
 
 -- The widths.

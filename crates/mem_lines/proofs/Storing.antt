@@ -1,5 +1,5 @@
 -- Bytes that a store writes, one after another.
-use Rattle.std.proofs.Common.{◌≡◌, ℕ, ◌+◌, ◌-◌, ◌*◌, ◌/◌, ◌%◌, ◌^◌, ◌<◌, ◌≤◌, Bool, true, false, List, length, get_or, set, refl, ap, sym, ◌∙◌, arith, inl, inr, add-one, get_or-set_same, get_or-set_other, pow-suc}
+use Rattle.std.proofs.Common.{◌≡◌, ℕ, ◌+◌, ◌-◌, ◌/◌, ◌%◌, ◌^◌, ◌<◌, true, List, length, get_or, set, refl, ap, sym, ◌∙◌, arith, inl, inr, add-one, get_or-set_same, get_or-set_other, pow-suc}
 use Rattle.std.proofs.Math.Nat.{div-div-eq-div-mul}
 use Rattle.std.proofs.lemmas.Bool.{cases_eq}
 use Rattle.flex_base.specs.FlatMemory.{covers, put, byte_at}

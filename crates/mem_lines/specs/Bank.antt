@@ -1,10 +1,9 @@
 -- One bank of memory, as contracts see it, and what it stands for.
-use Rattle.std.specs.Prelude.{◌≡◌, ℕ, ◌+◌, ◌-◌, ◌*◌, ◌/◌, ◌%◌, ◌<◌, ◌≤◌, Bool, true, ◌==◌, if◌then◌else◌, List, length, slice_index, slice_index_or, Option, None}
+use Rattle.std.specs.Prelude.{◌≡◌, ℕ, ◌+◌, ◌-◌, ◌*◌, ◌/◌, ◌%◌, ◌<◌, ◌≤◌, Bool, true, if◌then◌else◌, List, length, slice_index, slice_index_or, Option, None}
 use Rattle.flex_base.specs.Limits.{mebibyte}
 use Rattle.flex_base.specs.Word.{is_multiple}
 use Rattle.flex_base.specs.Place.{ram_base, in_ram}
 use Rattle.flex_base.specs.Setup.{Setup}
-use Rattle.flex_base.specs.Forms.{IsWidth}
 use Rattle.flex_base.specs.FlatMemory.{Done, byte, covers, reservation_of}
 use Rattle.flex_base.specs.declared.access.Access.{Access}
 use Rattle.flex_base.specs.declared.access.Access.TheVariants as acc

@@ -1,5 +1,5 @@
 -- What an access does to one bank.
-use Rattle.std.specs.Prelude.{◌≡◌, ℕ, ◌<◌, Bool, true, List, if◌then◌else◌}
+use Rattle.std.specs.Prelude.{◌≡◌, ℕ, ◌<◌, true, if◌then◌else◌}
 use Rattle.flex_base.specs.Word.{is_multiple}
 use Rattle.flex_base.specs.Place.{in_ram}
 use Rattle.flex_base.specs.Forms.{IsWidth, IsAtomicWidth}

@@ -1,4 +1,4 @@
-use Rattle.std.proofs.Common.{ap, subst, ◌<◌, ◌≡◌, ℕ, List, length, sym, ◌∙◌, arith}
+use Rattle.std.proofs.Common.{ap, subst, ◌≡◌, ℕ, List, length, sym, arith}
 use Rattle.mem_lines.specs.Bank.{Bank, IsIn}
 use Rattle.mem_lines.proofs.Dealing.{byte_within}
 use Rattle.mem_lines.proofs.lines.Lines.byte.Goals as goal

@@ -1,4 +1,4 @@
-use Rattle.std.proofs.Common.{ap, ap₂, ◌∙◌, slice_index, ◌≡◌, ℕ, List}
+use Rattle.std.proofs.Common.{ap, ◌∙◌, slice_index, ◌≡◌, ℕ, List}
 use Rattle.flex_base.specs.FlatMemory.{value_at}
 use Rattle.mem_lines.specs.Bank.{Bank}
 use Rattle.mem_lines.proofs.Dealing.{span_value, in_bits}

@@ -1,4 +1,4 @@
-use Rattle.std.proofs.Common.{arith, ap, ◌∙◌, slice_index, ◌≡◌, ℕ, List}
+use Rattle.std.proofs.Common.{arith, ap, ◌∙◌, slice_index, ℕ, List}
 use Rattle.std.proofs.lemmas.List.{with_items_is}
 use Rattle.mem_lines.specs.Bank.{spot}
 use Rattle.flex_base.specs.FlatMemory.{put}
