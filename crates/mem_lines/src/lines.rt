@@ -1,10 +1,11 @@
-ghost use Rattle.std.specs.Prelude.{◌≡◌, ℕ, ◌+◌, ◌*◌, ◌^◌, ◌<◌, ◌≤◌, ◌⊎◌, true, ◌==◌, if◌then◌else◌, List, [], ◌∷◌, ◌++◌, length, IfOk};
+ghost use Rattle.std.specs.Prelude.{◌≡◌, ℕ, ◌+◌, ◌*◌, ◌^◌, ◌<◌, ◌≤◌, ◌⊎◌, true, ◌==◌, if◌then◌else◌, List, [], length, IfOk};
 ghost use Rattle.flex_base.specs.Limits.{is_lawful};
 ghost use Rattle.flex_base.specs.Loaded.{image_fits};
 ghost use Rattle.flex_base.specs.Setup.{Setup};
 ghost use Rattle.flex_base.specs.Forms.{HasForm};
-ghost use Rattle.flex_base.specs.FlatMemory.{Done, is_ram_access, byte, flat, value_at, put, broken, granule, is_reserved, reply_with};
-ghost use Rattle.mem_lines.specs.Bank.{Bank, is_bank_count, bank_of, spot, held, reserved, IsIn, IsReplay, IsBank, IsSame, address_of};
+ghost use Rattle.flex_base.specs.Unsplit.{noted};
+ghost use Rattle.flex_base.specs.FlatMemory.{Done, byte, flat, value_at, put, broken, granule, is_reserved, reply_with};
+ghost use Rattle.mem_lines.specs.Bank.{is_bank_count, spot, held, reserved, IsIn, IsReplay, IsBank, IsSame};
 ghost use Rattle.mem_lines.specs.Steps.{done, IsSpan, IsHere, Follows, reply_of};
 
 use crate::image_bytes::bank_bytes;
@@ -72,14 +73,15 @@ impl Lines {
 
     /// Makes an access of RAM in this bank, by a hart below 32, and replies.
     ///
-    /// The bytes of the access are 1, 2, 4 or 8, those of an atomic operation 4 or 8, and aligned. A store-conditional writes where the reservation of its
-    /// hart stands, and replies 0; else it replies 1 (Volume I, "Load-Reserved/Store-Conditional
-    /// Instructions").
+    /// The bytes of the access are 1, 2, 4 or 8, those of an atomic operation 4 or 8, and aligned.
+    /// The reply tells what was read, and of an atomic operation what stood there before. A
+    /// store-conditional writes where the reservation of its hart stands, and replies 0; else it
+    /// replies 1 (Volume I, "Load-Reserved/Store-Conditional Instructions").
     pub fn act(&mut self, hart: HartId, acc: &Access) -> Reply
         requires hart { hart.0 < 32 }
         requires here { IsHere self.old acc.now }
         ensures flat { (setup : Setup) (made : List Done) → IsReplay setup made self.old → result ≡ flat setup.image made hart.0 acc.now }
-        ensures replay { (setup : Setup) (made : List Done) → IsReplay setup made self.old → IsReplay setup (made ++ done hart.0 acc.now result ∷ []) self.new }
+        ensures replay { (setup : Setup) (made : List Done) → IsReplay setup made self.old → IsReplay setup (noted made hart.0 acc.now result) self.new }
         ensures form { HasForm acc.now result }
         ensures same { IsSame self.old self.new }
     {
