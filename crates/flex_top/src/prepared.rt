@@ -64,10 +64,10 @@ impl Prepared {
     {
         let Prepared {
             mut player,
-            memory,
+            mut memory,
             mut pieces,
         } = self;
-        match player.play(&memory) {
+        match player.play(&mut memory) {
             Ok(None) => match write(outer, name, &mut pieces, &player, &memory) {
                 Ok(()) => Status::Ended,
                 Err(Failed) => Status::WriteFault,
