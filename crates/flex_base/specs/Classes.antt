@@ -51,7 +51,7 @@ class_of_op op.Wfi = class.System
 class_of_op (op.SfenceVma rs1 rs2) = class.System
 class_of_op (op.Illegal word) = class.Trap
 
--- the class of an event; a handover has none of its own, and no definition asks for it
+-- the class of an event; the machine's events are no handovers, which have no class of their own
 abbrev pub class_of_what : What → Class
 class_of_what (what.Acc access reply) = class_of_access access
 class_of_what (what.End part) = part.class

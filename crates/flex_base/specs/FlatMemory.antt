@@ -58,7 +58,8 @@ value_at f a (suc n) = f a + 256 * value_at f (a + 1) n
 abbrev pub granule : ℕ → ℕ
 granule address = address - address % 8
 
--- a reservation after a write of so many bytes by some hart: another hart's write into it ends it
+-- a reservation after a write at the address by some hart: another hart's write into it ends it. A write is aligned and
+-- at most 8 bytes wide, so it lies within one granule
 abbrev pub broken : ℕ → ℕ → ℕ → Option ℕ → Option ℕ
 broken hart by address None = None
 broken hart by address (Some g) = if (granule address == g) && not (hart == by) then None else Some g

@@ -41,10 +41,11 @@ pub record IsAlignedRam (setup : Setup) (address width : ℕ) : Type 0 where
   pub aligned : is_multiple address width ≡ true
   pub in_ram : in_ram setup.ram address width ≡ true
 
--- a width of a load, a store or a device register; of these, a width of an atomic
+-- a width of a load, a store or a device register
 abbrev pub IsWidth : ℕ → Type 0
 IsWidth width = (width == 1) || (width == 2) || (width == 4) || (width == 8) ≡ true
 
+-- a width of an atomic instruction
 abbrev pub IsAtomicWidth : ℕ → Type 0
 IsAtomicWidth width = (width == 4) || (width == 8) ≡ true
 

@@ -111,7 +111,7 @@ abbrev pub is_retire : Access → Bool
 is_retire acc.Retire = true
 is_retire other = false
 
--- the hart has spent its budget
+-- the hart has retired, as one does that has spent its budget
 abbrev pub is_spent : List Done → ℕ → Bool
 is_spent made h = list_any (λ (d : Done). (d.hart == h) && is_retire d.access) made
 

@@ -19,3 +19,6 @@ mod words;
 
 pub use status::{ImageFault, Status, status_code, status_text};
 pub use top::flex_top;
+
+#[cfg(test)]
+mod tests;

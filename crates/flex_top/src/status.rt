@@ -19,7 +19,7 @@ pub enum Status {
     OutOfMemory,
     /// A file couldn't be written.
     WriteFault,
-    /// The image isn't read yet, or the hart with this `pc` would do what isn't built yet.
+    /// An image of this kind isn't read yet, or the hart with this `pc` would do what isn't built yet.
     Unbuilt(Option<u64>),
 }
 

@@ -19,7 +19,7 @@ const IMAGE_LIMIT: u64 = 268_435_456;
 /// `solo IMAGE TRACE`, which `--ram=MIB --budget=ENDS` may follow, plays one hart over the raw image
 /// of that name and writes the trace of the run under the other name. No other file is touched, and
 /// nothing is said. After an answer other than `Ended` and `WriteFault` nothing is written; after
-/// `WriteFault` what is written is the beginning of the trace.
+/// `WriteFault` the file is as it was, or the beginning of the trace.
 pub fn flex_top<O: Outer>(alloc: Global, words: &[String], outer: &mut O) -> Status
     // When each answer comes: usage and the faults of the outside, and then the others by the image.
     ensures usage { (result ≡ Status.Usage) ↔ (reading (map string_bytes words.now) ≡ None) }

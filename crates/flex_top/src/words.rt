@@ -152,16 +152,8 @@ fn digits_value(word: &[u8]) -> Option<u64>
 #[cfg(test)]
 mod tests {
     use super::*;
-    use std::alloc::{AllocError, Global};
-
-    // The words of a line, parted by one space each.
-    fn words_of(alloc: Global, line: &str) -> Result<Vec<String>, AllocError> {
-        let mut words = Vec::new(alloc);
-        for word in line.split(' ') {
-            words.push(String::from_str(alloc, word)?)?;
-        }
-        Ok(words)
-    }
+    use crate::tests::words_of;
+    use std::alloc::AllocError;
 
     #[test]
     fn reads_the_words(rt: HostRuntime) -> Result<(), AllocError> {

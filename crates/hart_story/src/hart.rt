@@ -10,7 +10,7 @@ pub struct Hart {
     pub pc: u64,
     /// The registers; `x[0]` is never read.
     pub x: [u64; 32],
-    /// How many instructions have ended.
+    /// How many instructions and traps have ended.
     pub ends: u64,
 }
 

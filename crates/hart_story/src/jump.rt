@@ -10,7 +10,8 @@ use crate::register::passed;
 use crate::work::Outcome;
 use flex_base::{BranchOp, Class};
 
-// A jump, which links the next instruction. To a misaligned address it is an exception.
+// A jump, which links the next instruction. To a misaligned address it is an exception, and those
+// aren't built yet.
 pub(crate) fn jump(hart: &Hart, target: u64, rd: u8) -> Outcome
     ensures works { (a : State) → StandsFor hart.now a → outcome_of a result ≡ jumps a target rd }
     ensures sound { (layout : Layout) → IsSoundOutcome layout hart.now result }

@@ -13,3 +13,6 @@ mod work;
 pub use hart::Hart;
 pub use progress::{Need, Progress};
 pub use story::{finish, give, need};
+
+#[cfg(test)]
+mod tests;

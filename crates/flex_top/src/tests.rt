@@ -1,0 +1,171 @@
+use super::*;
+use flex_base::{MemoryOuter, Text};
+use std::alloc::{AllocError, Global};
+use std::process::Abort;
+use std::test::Fail;
+
+// `addi x5, x0, 7`, and a jump to itself.
+const IMAGE: [u8; 8] = [0x93, 0x02, 0x70, 0x00, 0x6f, 0x00, 0x00, 0x00];
+
+const WORDS: &str = "solo img out --ram=1 --budget=3";
+
+const TRACE: &str = "trace 1 harts 1 ram 1 budget 3
+0 0 p fetch 0000000080000000 00700293
+1 0 p end alu 0000000080000000 0000000080000004 x5 0000000000000007
+2 0 p fetch 0000000080000004 0000006f
+3 0 p end jump 0000000080000004 0000000080000004 x0 0000000000000000
+4 0 p fetch 0000000080000004 0000006f
+5 0 p end jump 0000000080000004 0000000080000004 x0 0000000000000000
+6 0 p to k
+7 0 k retire
+stop budget
+hart 0 ends 3 mode m pc 0000000080000004
+hart 0 x5 0000000000000007
+hart 0 csr 300 0000000a00000000
+hart 0 csr b00 0000000000000003
+hart 0 csr b02 0000000000000003
+ram 575d345454397c06aea295d74398d2e121e4ea818b6b57ac788216150823cd36
+done
+";
+
+// The words of a line, parted by one space each.
+pub(crate) fn words_of(alloc: Global, line: &str) -> Result<Vec<String>, AllocError> {
+    let mut words = Vec::new(alloc);
+    for word in line.split(' ') {
+        words.push(String::from_str(alloc, word)?)?;
+    }
+    Ok(words)
+}
+
+// What the words of the line come to where `img` is this image and the calls of these numbers fail.
+fn run(
+    alloc: Global,
+    image: &[u8],
+    line: &str,
+    failing: &[u64],
+) -> Result<(Status, MemoryOuter), AllocError> {
+    let words = words_of(alloc, line)?;
+    let mut files = Vec::new(alloc);
+    files.push((Text::of(alloc, b"img")?, Vec::from_slice(alloc, image)?))?;
+    let failing = Vec::from_slice(alloc, failing)?;
+    let mut outer = MemoryOuter::new(alloc, files, failing);
+    let status = flex_top(alloc, &words, &mut outer);
+    Ok((status, outer))
+}
+
+#[test]
+fn writes_the_trace_of_the_run(rt: HostRuntime) -> Result<(), Fail> {
+    let (status, outer) = run(rt.alloc(), &IMAGE, WORDS, &[])?;
+    assert_eq!(rt; status, Status::Ended);
+    assert_eq!(rt; outer.written("out"), Some(TRACE.as_bytes()));
+    assert_eq!(rt; outer.said(), b"".as_slice());
+    Ok(())
+}
+
+#[test]
+fn reads_the_image_before_it_writes(rt: HostRuntime) -> Result<(), Fail> {
+    let line = "solo img img --ram=1 --budget=3";
+    let (status, outer) = run(rt.alloc(), &IMAGE, line, &[])?;
+    assert_eq!(rt; status, Status::Ended);
+    assert_eq!(rt; outer.written("img"), Some(TRACE.as_bytes()));
+    Ok(())
+}
+
+#[test]
+fn answers_by_the_words(rt: HostRuntime) -> Result<(), AllocError> {
+    for (line, status) in [
+        (
+            "solo img out --ram=0000000001 --budget=0000000003",
+            Status::Ended,
+        ),
+        ("solo img out --ram=1 --budget=64", Status::Ended),
+        (
+            "solo img out --ram=1 --budget=65",
+            Status::Unbuilt(Some(0x8000_0004)),
+        ),
+        ("solo none out --ram=1 --budget=3", Status::ReadFault),
+        ("run img out --ram=1 --budget=3", Status::Usage),
+        ("solo img out --ram=1 --budget=262145", Status::Usage),
+        ("solo img out --budget=3 --ram=1", Status::Usage),
+        ("", Status::Usage),
+    ] {
+        assert_words(&rt, rt.alloc(), line, status)?;
+    }
+    Ok(())
+}
+
+fn assert_words(
+    rt: &impl Abort,
+    alloc: Global,
+    line: &str,
+    status: Status,
+) -> Result<(), AllocError> {
+    let (answer, outer) = run(alloc, &IMAGE, line, &[])?;
+    assert_eq!(rt; answer, status, "at {line}");
+    let ended = status == Status::Ended;
+    assert_eq!(rt; outer.written("out").is_some(), ended, "at {line}");
+    Ok(())
+}
+
+#[test]
+fn answers_by_the_call_that_fails(rt: HostRuntime) -> Result<(), AllocError> {
+    for (call, status, written) in [
+        (0, Status::ReadFault, None),
+        (1, Status::WriteFault, None),
+        (2, Status::WriteFault, Some("")),
+        (3, Status::Ended, Some(TRACE)),
+    ] {
+        assert_call(&rt, rt.alloc(), call, status, written)?;
+    }
+    Ok(())
+}
+
+fn assert_call(
+    rt: &impl Abort,
+    alloc: Global,
+    call: u64,
+    status: Status,
+    written: Option<&str>,
+) -> Result<(), AllocError> {
+    let (answer, outer) = run(alloc, &IMAGE, WORDS, &[call])?;
+    assert_eq!(rt; answer, status, "at {call}");
+    match written {
+        Some(text) => assert_eq!(rt; outer.written("out"), Some(text.as_bytes()), "at {call}"),
+        None => assert_eq!(rt; outer.written("out"), None, "at {call}"),
+    }
+    Ok(())
+}
+
+#[test]
+fn answers_by_the_image(rt: HostRuntime) -> Result<(), AllocError> {
+    let alloc = rt.alloc();
+    let whole = vec![in alloc; 0; 1_048_576]?;
+    let longer = vec![in alloc; 0; 1_048_577]?;
+    // `addi x0, x0, 0`, and `add x0, x0, x0`.
+    let register = [0x13, 0, 0, 0, 0x33, 0, 0, 0];
+    for (image, status) in [
+        (
+            longer.as_slice(),
+            Status::ImageRefused(ImageFault::SegmentOutsideRam(0)),
+        ),
+        (whole.as_slice(), Status::Unbuilt(Some(0x8000_0000))),
+        (register.as_slice(), Status::Unbuilt(Some(0x8000_0004))),
+        (b"\x7fELF".as_slice(), Status::Unbuilt(None)),
+    ] {
+        assert_image(&rt, alloc, image, status)?;
+    }
+    Ok(())
+}
+
+// That the image comes to this status, of a run that isn't written.
+fn assert_image(
+    rt: &impl Abort,
+    alloc: Global,
+    image: &[u8],
+    status: Status,
+) -> Result<(), AllocError> {
+    let (answer, outer) = run(alloc, image, WORDS, &[])?;
+    assert_eq!(rt; answer, status);
+    assert_eq!(rt; outer.written("out"), None);
+    Ok(())
+}
