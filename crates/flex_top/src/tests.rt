@@ -141,15 +141,15 @@ fn answers_by_the_image(rt: HostRuntime) -> Result<(), AllocError> {
     let alloc = rt.alloc();
     let whole = vec![in alloc; 0; 1_048_576]?;
     let longer = vec![in alloc; 0; 1_048_577]?;
-    // `addi x0, x0, 0`, and `add x0, x0, x0`.
-    let register = [0x13, 0, 0, 0, 0x33, 0, 0, 0];
+    // `addi x0, x0, 0`, and `ecall`.
+    let system = [0x13, 0, 0, 0, 0x73, 0, 0, 0];
     for (image, status) in [
         (
             longer.as_slice(),
             Status::ImageRefused(ImageFault::SegmentOutsideRam(0)),
         ),
         (whole.as_slice(), Status::Unbuilt(Some(0x8000_0000))),
-        (register.as_slice(), Status::Unbuilt(Some(0x8000_0004))),
+        (system.as_slice(), Status::Unbuilt(Some(0x8000_0004))),
         (b"\x7fELF".as_slice(), Status::Unbuilt(None)),
     ] {
         assert_image(&rt, alloc, image, status)?;
