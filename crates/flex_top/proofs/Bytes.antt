@@ -1,12 +1,11 @@
 -- Bytes of RAM, before and after an access.
-use Rattle.std.proofs.Common.{◌≡◌, ◌≢◌, ℕ, ◌+◌, ◌-◌, ◌*◌, ◌/◌, ◌%◌, ◌^◌, ◌<◌, ◌≤◌, zero, suc, Bool, true, false, ◌&&◌, if◌then◌else◌, nat_le, nat_lt, List, [], ◌∷◌, ◌++◌, length, get_or, set, slice_index, refl, ap, sym, ◌∙◌, inl, inr, arith, add-one, get_or-set_same, get_or-set_other}
+use Rattle.std.proofs.Common.{◌≡◌, ◌≢◌, ℕ, ◌+◌, ◌-◌, ◌*◌, ◌/◌, ◌^◌, ◌<◌, ◌≤◌, true, if◌then◌else◌, List, [], ◌∷◌, ◌++◌, length, get_or, set, slice_index, refl, ap, sym, ◌∙◌, inl, inr, arith, add-one, get_or-set_same, get_or-set_other}
 use Rattle.std.proofs.Math.Nat.{div-div-eq-div-mul, pow-suc}
 use Rattle.std.proofs.lemmas.Bool.Decides.{eqb_tells, nat_tests}
 use Rattle.std.proofs.lemmas.List.Sums.{fold_push}
 use Rattle.flex_base.specs.Place.{ram_base}
 use Rattle.flex_base.specs.Setup.{Setup}
 use Rattle.flex_base.specs.FlatMemory.{Done, covers, byte_at, put, left_by, byte, image_byte}
-use Rattle.flex_base.specs.declared.access.Access.{Access}
 use Rattle.flex_base.specs.declared.access.Access.TheVariants as acc
 use Rattle.flex_base.specs.declared.access.Reply.{Reply}
 use Rattle.flex_top.specs.Memory.{IsReplay}
@@ -30,8 +29,8 @@ put_shift i old at address width value above same =
 
 -- a store leaves the replay of one more access
 pub replay_write : (setup : Setup) (memory after : List ℕ) (made : List Done) (hart at address width value : ℕ) (reply : Reply) → ram_base ≤ address → at ≡ address - ram_base → length after ≡ length memory
-  → ((i : ℕ) → slice_index after i ≡ put i (slice_index memory i) at width value)
-  → IsReplay setup memory made → IsReplay setup after (made ++ record { hart = hart; access = acc.Write address width value; reply = reply } ∷ [])
+    → ((i : ℕ) → slice_index after i ≡ put i (slice_index memory i) at width value)
+    → IsReplay setup memory made → IsReplay setup after (made ++ record { hart = hart; access = acc.Write address width value; reply = reply } ∷ [])
 replay_write setup memory after made hart at address width value reply above same size written replay =
     let d : Done = record { hart = hart; access = acc.Write address width value; reply = reply } in
     record {
@@ -65,9 +64,9 @@ written_there m f at i value byte so_far j other =
     ∙ sym (ap (λ b. if b then byte_at value (j - at) else f j) (covers_more at i j other))
 
 pub written_more : (m : List ℕ) (f : ℕ → ℕ) (at i value byte : ℕ) → at + i < length m → byte ≡ byte_at value i → ((j : ℕ) → get_or m j 0 ≡ put j (f j) at i value)
-  → (j : ℕ) → get_or (set m (at + i) byte) j 0 ≡ put j (f j) at (i + 1) value
+    → (j : ℕ) → get_or (set m (at + i) byte) j 0 ≡ put j (f j) at (i + 1) value
 written_more m f at i value byte below same so_far j = elim (eqb_tells j (at + i)) [
-    inl here ↦ written_here m f at i value byte below same j here.1
+  | inl here ↦ written_here m f at i value byte below same j here.1
   | inr there ↦ written_there m f at i value byte so_far j there.1
 ]
 

@@ -1,15 +1,13 @@
 -- A step of the player is a step of the machine.
-use Rattle.std.proofs.Common.{◌≡◌, ℕ, ◌+◌, ◌<◌, Bool, true, false, ◌||◌, ◌&&◌, ◌==◌, if◌then◌else◌, List, [], ◌∷◌, ◌++◌, length, None, Some, refl, ap, sym, subst, ◌∙◌, arith, inl, inr, set, length-set}
-use Rattle.std.proofs.lemmas.Bool.Decides.{eqb_tells}
+use Rattle.std.proofs.Common.{◌≡◌, ℕ, ◌<◌, Bool, true, false, ◌||◌, ◌&&◌, ◌==◌, if◌then◌else◌, List, [], ◌∷◌, ◌++◌, length, None, Some, refl, ap, sym, subst, ◌∙◌, arith, set, length-set}
 use Rattle.std.proofs.lemmas.List.Folds.{list_any-append}
 use Rattle.std.proofs.lemmas.List.Sums.{fold_push}
-use Rattle.flex_base.specs.Place.{ram_base}
 use Rattle.flex_base.specs.Setup.{Setup}
 use Rattle.flex_base.specs.State.{State, start}
-use Rattle.flex_base.specs.Story.{Want, Asks, Ends, IsOver, IsLater, want, story}
+use Rattle.flex_base.specs.Story.{Want, Asks, Ends, IsOver, IsLater}
 use Rattle.flex_base.specs.Built.{is_built_access, is_built, unbuilt_at}
 use Rattle.flex_base.specs.Classes.{default_plan}
-use Rattle.flex_base.specs.FlatMemory.{Done, is_ram_access, left_by, image_byte}
+use Rattle.flex_base.specs.FlatMemory.{Done, is_ram_access}
 use Rattle.flex_base.specs.Unsplit.{Machine, Made, Half, half_at, half_of, want_of, reply_to, step, makes, does, noted, is_spent, is_retire, is_over, stepped}
 use Rattle.flex_base.specs.Split.{Plan, part, parted, unparted}
 use Rattle.flex_base.specs.declared.access.Access.{Access}
@@ -17,9 +15,8 @@ use Rattle.flex_base.specs.declared.access.Access.TheVariants as acc
 use Rattle.flex_base.specs.declared.access.Reply.{Reply}
 use Rattle.flex_base.specs.declared.event.EndPart.{EndPart}
 use Rattle.flex_base.specs.declared.event.What.TheVariants as what
-use Rattle.flex_base.proofs.Stories.{story_spent}
 use Rattle.flex_base.proofs.Machines.{step_is, half-set}
-use Rattle.hart_story.specs.Progressing.{node, IsIn, is_retired}
+use Rattle.hart_story.specs.Progressing.{IsIn, is_retired}
 use Rattle.hart_story.proofs.Asking.{asks_unretired}
 use Rattle.flex_top.specs.Memory.{IsReplay, replayed}
 use Rattle.flex_top.specs.Splitting.{parted_by}
@@ -46,7 +43,7 @@ any_more devices access reply before =
 
 -- who has retired, after an access of a hart that hadn't
 spent_after : (devices : List Done) (access : Access) (reply : Reply) → is_built_access access ≡ true → is_spent devices 0 ≡ false
-  → is_spent (if is_ram_access access then devices else noted devices 0 access reply) 0 ≡ is_retire access
+    → is_spent (if is_ram_access access then devices else noted devices 0 access reply) 0 ≡ is_retire access
 spent_after devices (acc.Fetch address) reply built before = before
 spent_after devices (acc.Read address width) reply built before = before
 spent_after devices (acc.Write address width value) reply built before = before
@@ -59,7 +56,7 @@ spent_after devices other reply built before = absurd cc
 pub at_access : (setup : Setup) (u : Machine) (player next : Player) (memory after_memory : List ℕ) (access : Access) → IsAt setup u player memory → want_of setup u 0 ≡ Asks access → is_built_access access ≡ true
     → IsIn setup (half_at u 0).state ((half_at u 0).replies ++ reply_to setup u 0 access ∷ []) next.hart next.progress next.layout next.budget
     → is_retired next.progress ≡ is_retire access
-  → IsReplay setup after_memory (replayed u.ram 0 access (reply_to setup u 0 access))
+    → IsReplay setup after_memory (replayed u.ram 0 access (reply_to setup u 0 access))
     → parted_by next.run ≡ part default_plan (parted_by player.run) (does 0 (what.Acc access (reply_to setup u 0 access)))
     → IsAt setup (step setup u 0) next after_memory
 at_access setup u player next memory after_memory access at asks built hart retired replay run =

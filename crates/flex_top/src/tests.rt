@@ -28,6 +28,44 @@ ram 575d345454397c06aea295d74398d2e121e4ea818b6b57ac788216150823cd36
 done
 ";
 
+// A program that loads the word that stands behind it, stores it over an instruction that follows, and executes that:
+// `auipc x5, 0`, `lw x6, 20(x5)`, `sw x6, 12(x5)`, no instruction, `jal x0, 0`, and `addi x7, x0, 1` as the word.
+const REWRITING: [u8; 24] = [
+    0x97, 0x02, 0x00, 0x00, 0x03, 0xa3, 0x42, 0x01, 0x23, 0xa6, 0x62, 0x00, 0x00, 0x00, 0x00, 0x00,
+    0x6f, 0x00, 0x00, 0x00, 0x93, 0x03, 0x10, 0x00,
+];
+
+// `addi x5, x0, 7`, `lui x6, 256`, `lui x7, 5`, `addi x7, x7, 1365`, and `sw x7, 0(x6)`, which is outside RAM.
+const OUTSIDE: [u8; 20] = [
+    0x93, 0x02, 0x70, 0x00, 0x37, 0x03, 0x10, 0x00, 0xb7, 0x53, 0x00, 0x00, 0x93, 0x83, 0x53, 0x55,
+    0x23, 0x20, 0x73, 0x00,
+];
+
+const REWRITTEN: &str = "trace 1 harts 1 ram 1 budget 4
+0 0 p fetch 0000000080000000 00000297
+1 0 p end alu 0000000080000000 0000000080000004 x5 0000000080000000
+2 0 p fetch 0000000080000004 0142a303
+3 0 p read 0000000080000014 4 0000000000100393
+4 0 p end load 0000000080000004 0000000080000008 x6 0000000000100393
+5 0 p fetch 0000000080000008 0062a623
+6 0 p write 000000008000000c 4 0000000000100393
+7 0 p end store 0000000080000008 000000008000000c x0 0000000000000000
+8 0 p fetch 000000008000000c 00100393
+9 0 p end alu 000000008000000c 0000000080000010 x7 0000000000000001
+10 0 p to k
+11 0 k retire
+stop budget
+hart 0 ends 4 mode m pc 0000000080000010
+hart 0 x5 0000000080000000
+hart 0 x6 0000000000100393
+hart 0 x7 0000000000000001
+hart 0 csr 300 0000000a00000000
+hart 0 csr b00 0000000000000004
+hart 0 csr b02 0000000000000004
+ram 836e82e96c7a713328e991a48d8ce3cc828032db51923773332412317edbeba4
+done
+";
+
 // The words of a line, parted by one space each.
 pub(crate) fn words_of(alloc: Global, line: &str) -> Result<Vec<String>, AllocError> {
     let mut words = Vec::new(alloc);
@@ -63,6 +101,36 @@ fn writes_the_trace_of_the_run(rt: HostRuntime) -> Result<(), Fail> {
 }
 
 #[test]
+fn executes_what_it_stored(rt: HostRuntime) -> Result<(), Fail> {
+    let line = "solo img out --ram=1 --budget=4";
+    let (status, outer) = run(rt.alloc(), &REWRITING, line, &[])?;
+    assert_eq!(rt; status, Status::Ended);
+    assert_eq!(rt; outer.written("out"), Some(REWRITTEN.as_bytes()));
+    Ok(())
+}
+
+// The pulses come after 64 and 128 ends of 129.
+#[test]
+fn pulses_after_each_64_ends(rt: HostRuntime) -> Result<(), Fail> {
+    let line = "solo img out --ram=1 --budget=129";
+    let (status, outer) = run(rt.alloc(), &[0x6f, 0, 0, 0], line, &[])?;
+    assert_eq!(rt; status, Status::Ended);
+    let text = str::from_utf8(outer.written("out").unwrap_or(b"")).unwrap_or("");
+    for (number, want) in [
+        (129, "128 0 p to k"),
+        (130, "129 0 k pulse 1 0000000000000000 0 0"),
+        (131, "130 0 k to p"),
+        (260, "259 0 p to k"),
+        (261, "260 0 k pulse 1 0000000000000000 0 0"),
+        (262, "261 0 k to p"),
+        (266, "265 0 k retire"),
+    ] {
+        assert_eq!(rt; text.split('\n').nth(number), Some(want));
+    }
+    Ok(())
+}
+
+#[test]
 fn reads_the_image_before_it_writes(rt: HostRuntime) -> Result<(), Fail> {
     let line = "solo img img --ram=1 --budget=3";
     let (status, outer) = run(rt.alloc(), &IMAGE, line, &[])?;
@@ -79,10 +147,7 @@ fn answers_by_the_words(rt: HostRuntime) -> Result<(), AllocError> {
             Status::Ended,
         ),
         ("solo img out --ram=1 --budget=64", Status::Ended),
-        (
-            "solo img out --ram=1 --budget=65",
-            Status::Unbuilt(Some(0x8000_0004)),
-        ),
+        ("solo img out --ram=1 --budget=65", Status::Ended),
         ("solo none out --ram=1 --budget=3", Status::ReadFault),
         ("run img out --ram=1 --budget=3", Status::Usage),
         ("solo img out --ram=1 --budget=262145", Status::Usage),
@@ -136,6 +201,19 @@ fn assert_call(
     Ok(())
 }
 
+// The second piece of a longer trace.
+#[test]
+fn keeps_what_was_written_before_a_fault(rt: HostRuntime) -> Result<(), Fail> {
+    let line = "solo img out --ram=1 --budget=2000";
+    let (whole, full) = run(rt.alloc(), &[0x6f, 0, 0, 0], line, &[])?;
+    assert_eq!(rt; whole, Status::Ended);
+    let (status, outer) = run(rt.alloc(), &[0x6f, 0, 0, 0], line, &[3])?;
+    assert_eq!(rt; status, Status::WriteFault);
+    let text = full.written("out").unwrap_or(b"");
+    assert_eq!(rt; outer.written("out"), text.get(..65_536));
+    Ok(())
+}
+
 #[test]
 fn answers_by_the_image(rt: HostRuntime) -> Result<(), AllocError> {
     let alloc = rt.alloc();
@@ -150,6 +228,7 @@ fn answers_by_the_image(rt: HostRuntime) -> Result<(), AllocError> {
         ),
         (whole.as_slice(), Status::Unbuilt(Some(0x8000_0000))),
         (system.as_slice(), Status::Unbuilt(Some(0x8000_0004))),
+        (OUTSIDE.as_slice(), Status::Unbuilt(Some(0x8000_0010))),
         (b"\x7fELF".as_slice(), Status::Unbuilt(None)),
     ] {
         assert_image(&rt, alloc, image, status)?;
@@ -164,7 +243,8 @@ fn assert_image(
     image: &[u8],
     status: Status,
 ) -> Result<(), AllocError> {
-    let (answer, outer) = run(alloc, image, WORDS, &[])?;
+    let line = "solo img out --ram=1 --budget=9";
+    let (answer, outer) = run(alloc, image, line, &[])?;
     assert_eq!(rt; answer, status);
     assert_eq!(rt; outer.written("out"), None);
     Ok(())

@@ -1,5 +1,5 @@
 -- What a hart asks, and how far its instruction has then come.
-use Rattle.std.proofs.Common.{◌≡◌, ◌≢◌, ℕ, ◌+◌, ◌*◌, Bool, true, false, if◌then◌else◌, List, [], ◌∷◌, ◌++◌, refl, ap, sym, ◌∙◌}
+use Rattle.std.proofs.Common.{◌≡◌, ℕ, ◌+◌, ◌*◌, Bool, true, false, if◌then◌else◌, List, [], ◌∷◌, ◌++◌, refl, ap, sym, ◌∙◌}
 use Rattle.flex_base.specs.Word.{wrap, low, is_multiple}
 use Rattle.flex_base.specs.Place.{in_ram, place_of}
 use Rattle.flex_base.specs.Setup.{Setup}
@@ -8,7 +8,7 @@ use Rattle.flex_base.specs.Decoding.{decoded}
 use Rattle.flex_base.specs.Arithmetic.{alu_of}
 use Rattle.flex_base.specs.FlatMemory.{reply_with}
 use Rattle.flex_base.specs.Forms.{HasForm}
-use Rattle.flex_base.specs.Story.{Want, Asks, Ends, IsOver, IsLater, Story, Says, Closes, StaysOver, ComesLater, story, fetches, works, jumps, branches, reaches, at_place, extended, is_taken, is_tick, even, ends, passes, traps, want, ask, goes, after_one}
+use Rattle.flex_base.specs.Story.{Want, Asks, Ends, IsOver, IsLater, Story, Says, StaysOver, ComesLater, story, fetches, works, jumps, branches, reaches, at_place, extended, is_taken, is_tick, even, ends, passes, traps, want, ask, after_one}
 use Rattle.flex_base.specs.Built.{is_built_access}
 use Rattle.flex_base.specs.Unsplit.{is_retire}
 use Rattle.flex_base.specs.declared.access.Access.{Access}
@@ -21,7 +21,7 @@ use Rattle.flex_base.specs.declared.operation.Op.{Op}
 use Rattle.flex_base.specs.declared.operation.Op.TheVariants as op
 use Rattle.flex_base.specs.declared.settings.Place.{Place}
 use Rattle.flex_base.specs.declared.settings.Place.TheVariants as place
-use Rattle.flex_base.proofs.Stories.{goes_push, retires, goes_on, after_pulse, story_spent, story_due, story_undue, story_begins, fetches_begin, IsBeginning}
+use Rattle.flex_base.proofs.Stories.{goes_push, goes_on, after_pulse, story_begins, fetches_begin, IsBeginning}
 use Rattle.hart_story.specs.Progressing.{node, Reached, is_retired}
 use Rattle.hart_story.specs.Telling.{outcome_of}
 use Rattle.hart_story.specs.declared.progress.Progress.{Progress}
@@ -40,7 +40,7 @@ pub data Comes (access : Story) : Story → Type 0 where
   Later : Comes access ComesLater
 
 reaches_by : (a : State) (address misaligned fault : ℕ) (access : Story) (aligned : Bool) (p : Place)
-  → Comes access (if aligned then at_place p access (traps a fault address) else traps a misaligned address)
+    → Comes access (if aligned then at_place p access (traps a fault address) else traps a misaligned address)
 reaches_by a address misaligned fault access true place.Ram = There
 reaches_by a address misaligned fault access true place.Device = Later
 reaches_by a address misaligned fault access true place.Nowhere = Later

@@ -1,5 +1,5 @@
 -- The widths that the decoder gives.
-use Rattle.std.proofs.Common.{◌≡◌, ℕ, Bool, true, false, ◌&&◌, ◌||◌, ◌==◌, if◌then◌else◌, List, [], ◌∷◌, Option, None, Some, find, refl, ap, sym, ◌∙◌}
+use Rattle.std.proofs.Common.{◌≡◌, ℕ, Bool, true, false, ◌&&◌, ◌||◌, ◌==◌, if◌then◌else◌, List, [], ◌∷◌, Some, find, refl}
 use Rattle.std.specs.List.{list_all}
 use Rattle.flex_base.specs.Decoding.{Row, rows, fits_row, made_by, decoded}
 use Rattle.flex_base.specs.declared.operation.Op.{Op}
@@ -25,9 +25,10 @@ and_right false b e = absurd cc
 -- what holds of each row's operation holds of the decoded one
 made_has : (word : ℕ) (p : Row → Bool) (xs : List Row) → list_all (λ (r : Row). has_width (r.make word)) xs ≡ true → has_width (made_by word (find p xs)) ≡ true
 made_has word p [] all = refl
-made_has word p (r ∷ xs) all = elim (p r) as (λ b. has_width (made_by word (if b then Some r else find p xs)) ≡ true)
-    [ true ↦ and_left (has_width (r.make word)) (list_all (λ (x : Row). has_width (x.make word)) xs) all
-    | false ↦ made_has word p xs (and_right (has_width (r.make word)) (list_all (λ (x : Row). has_width (x.make word)) xs) all) ]
+made_has word p (r ∷ xs) all = elim (p r) as (λ b. has_width (made_by word (if b then Some r else find p xs)) ≡ true) [
+  | true ↦ and_left (has_width (r.make word)) (list_all (λ (x : Row). has_width (x.make word)) xs) all
+  | false ↦ made_has word p xs (and_right (has_width (r.make word)) (list_all (λ (x : Row). has_width (x.make word)) xs) all)
+]
 
 pub decoded_widths : (word : ℕ) → has_width (decoded word) ≡ true
 unfolding decoded rows

@@ -88,7 +88,10 @@ pub(crate) fn after(hart: &Hart, outcome: &Outcome, value: u64) -> Outcome
 {
     match *outcome {
         Outcome::Load {
-            width, signed, rd, ..
+            width,
+            signed,
+            rd,
+            ..
         } => Outcome::End {
             class: Class::Load,
             next: hart.pc.wrapping_add(4),

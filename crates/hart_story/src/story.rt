@@ -14,8 +14,8 @@ ghost use Rattle.hart_story.specs.StandsFor.{StandsFor};
 ghost use Rattle.hart_story.specs.Telling.{told, AsksPlaced, outcome_of, IsSoundOutcome};
 
 use crate::hart::Hart;
-use crate::progress::{Need, Progress};
 use crate::memory::after;
+use crate::progress::{Need, Progress};
 use crate::work::{Outcome, work};
 use flex_base::{Access, Class, EndPart, Layout, Place, Reply};
 

@@ -33,7 +33,11 @@ pub(crate) enum Outcome {
         rd: u8,
     },
     /// A write of RAM.
-    Store { address: u64, width: u8, value: u64 },
+    Store {
+        address: u64,
+        width: u8,
+        value: u64,
+    },
     Unbuilt,
 }
 
@@ -52,13 +56,33 @@ pub(crate) fn work(hart: &Hart, layout: &Layout, word: u32) -> Outcome
         Op::Jal { rd, imm } => jump(hart, hart.pc.wrapping_add(imm), rd),
         Op::Jalr { rd, rs1, imm } => jump(hart, even(read(hart, rs1).wrapping_add(imm)), rd),
         Op::Branch { op, rs1, rs2, imm } => {
-            branch(hart, op, read(hart, rs1), read(hart, rs2), hart.pc.wrapping_add(imm))
+            branch(
+                hart,
+                op,
+                read(hart, rs1),
+                read(hart, rs2),
+                hart.pc.wrapping_add(imm),
+            )
         }
-        Op::Load { width, signed, rd, rs1, imm } => {
-            load(layout, width, signed, rd, read(hart, rs1).wrapping_add(imm))
-        }
-        Op::Store { width, rs1, rs2, imm } => {
-            store(layout, width, read(hart, rs1).wrapping_add(imm), read(hart, rs2))
+        Op::Load {
+            width,
+            signed,
+            rd,
+            rs1,
+            imm,
+        } => { load(layout, width, signed, rd, read(hart, rs1).wrapping_add(imm)) }
+        Op::Store {
+            width,
+            rs1,
+            rs2,
+            imm,
+        } => {
+            store(
+                layout,
+                width,
+                read(hart, rs1).wrapping_add(imm),
+                read(hart, rs2),
+            )
         }
         Op::Fence { .. } | Op::FenceI { .. } => passed(hart, Class::Fence),
         _ => Outcome::Unbuilt,

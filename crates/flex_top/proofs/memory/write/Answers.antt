@@ -1,6 +1,5 @@
 -- One more byte is written.
-use Rattle.std.proofs.Common.{◌≡◌, ℕ, ◌+◌, ◌<◌, ◌%◌, ◌/◌, ◌^◌, length, get_or, ap, ◌∙◌, arith}
-use Rattle.flex_base.specs.FlatMemory.{byte_at}
+use Rattle.std.proofs.Common.{ℕ, ◌+◌, ◌<◌, ◌%◌, ◌/◌, length, get_or, ap, ◌∙◌, arith}
 use Rattle.flex_top.proofs.Bytes.{written_more, quotient_more}
 use Rattle.flex_top.proofs.memory.write.Goals as goal
 

@@ -1,5 +1,5 @@
 -- The end is what the instruction comes to.
-use Rattle.std.proofs.Common.{◌≡◌, ◌≢◌, ◌≤◌, ◌+◌, ap, sym, ◌∙◌, arith}
+use Rattle.std.proofs.Common.{◌+◌, ap, sym, ◌∙◌, arith}
 use Rattle.flex_base.specs.Word.{is_multiple}
 use Rattle.flex_base.specs.State.{State, set_reg}
 use Rattle.flex_base.specs.Story.{Ends, want}

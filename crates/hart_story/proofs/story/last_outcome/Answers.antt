@@ -1,5 +1,5 @@
 -- What stands after the reply is what follows it in the story of the word.
-use Rattle.std.proofs.Common.{◌≡◌, ap, ◌∙◌}
+use Rattle.std.proofs.Common.{ap, ◌∙◌}
 use Rattle.flex_base.specs.FlatMemory.{reply_with}
 use Rattle.flex_base.specs.Story.{after_one}
 use Rattle.hart_story.specs.Progressing.{node}

@@ -1,5 +1,5 @@
 -- What is wanted follows from where the replies lead.
-use Rattle.std.proofs.Common.{◌≡◌, ap, sym, ◌∙◌}
+use Rattle.std.proofs.Common.{ap, sym, ◌∙◌}
 use Rattle.flex_base.specs.FlatMemory.{reply_with}
 use Rattle.flex_base.specs.Story.{want, after_one}
 use Rattle.hart_story.specs.Progressing.{node}
@@ -17,8 +17,8 @@ returns-in-Fetched-clause-placed c = λ setup a replies at. c.outcome_need.ensur
 pub returns-in-Answered-clause-told : goal.returns-in-Answered-clause-told
 returns-in-Answered-clause-told c = λ setup a replies at.
     let here = at.reached ∙ ap (node setup a) c.in-Answered.is
-        ∙ ap (λ s. after_one s (reply_with c.in-Answered.value)) (c.work-in-Answered.ensures.works setup c.args.budget a at.of at.stands)
-        ∙ c.after.ensures.after a at.stands in
+    ∙ ap (λ s. after_one s (reply_with c.in-Answered.value)) (c.work-in-Answered.ensures.works setup c.args.budget a at.of at.stands)
+    ∙ c.after.ensures.after a at.stands in
     let sound = c.after.ensures.sound c.args.layout.now c.work-in-Answered.ensures.sound in
     c.outcome_need-in-Answered.ensures.told c.args.layout.now c.args.hart.now a sound ∙ ap (λ s. told (want s)) (sym here)
 

@@ -1,5 +1,5 @@
 -- The decoder gives no other widths, and what each part comes to is sound in any layout.
-use Rattle.std.proofs.Common.{ℕ, ◌+◌, ◌≡◌, sym, ap, ◌∙◌}
+use Rattle.std.proofs.Common.{ℕ, ◌+◌, sym, ap, ◌∙◌}
 use Rattle.flex_base.specs.declared.operation.Op.{Op}
 use Rattle.flex_base.specs.Word.{wrap}
 use Rattle.flex_base.specs.State.{reg}
