@@ -1,0 +1,84 @@
+-- A bank stays the replay of the accesses.
+use Rattle.std.proofs.Common.{◌≡◌, ℕ, ◌<◌, true, ◌⊎◌, ◌+◌, if◌then◌else◌, List, [], ◌∷◌, ◌++◌, None, refl, ap, sym, subst, ◌∙◌, inl, inr, arith}
+use Rattle.std.proofs.lemmas.Bool.Decides.{eqb_tells}
+use Rattle.std.proofs.lemmas.List.Sums.{fold_push}
+use Rattle.flex_base.specs.Place.{in_ram}
+use Rattle.flex_base.specs.Setup.{Setup}
+use Rattle.flex_base.specs.Forms.{IsPlaced, IsAlignedRam, IsWidth, IsAtomicWidth}
+use Rattle.flex_base.specs.FlatMemory.{Done, is_ram_access, left_by, image_byte, byte, reserved_by, value_at, flat, granule, is_reserved, reply_with}
+use Rattle.flex_base.specs.declared.access.Access.{Access}
+use Rattle.flex_base.specs.declared.access.Access.TheVariants as acc
+use Rattle.mem_lines.specs.Bank.{Bank, IsIn, IsReplay, IsSame, held, bank_of, address_of}
+use Rattle.mem_lines.specs.Steps.{IsSpan, IsHere, Follows, reply_of}
+use Rattle.mem_lines.proofs.Dealing.{value_same, span_in}
+
+-- The widths.
+
+pub four_or_eight : (width : ℕ) → IsAtomicWidth width → (width ≡ 4) ⊎ (width ≡ 8)
+four_or_eight width one = elim (eqb_tells width 4) [
+  | inl four ↦ inl four.1
+  | inr no4 ↦ elim (eqb_tells width 8) [
+    | inl eight ↦ inr eight.1
+    | inr no8 ↦ absurd (grind (arith, no4.0, no8.0, one))
+  ]
+]
+
+width_of_atomic : (width : ℕ) → IsAtomicWidth width → IsWidth width
+width_of_atomic width one = elim (four_or_eight width one) [
+  | inl four ↦ subst (λ n. IsWidth n) (sym four) refl
+  | inr eight ↦ subst (λ n. IsWidth n) (sym eight) refl
+]
+
+-- An access that is placed in the bank.
+
+span_here : (setup : Setup) (b : Bank) (address width : ℕ) → setup.ram ≡ b.ram → IsWidth width → IsAlignedRam setup address width → bank_of b.banks address ≡ b.bank → IsSpan b address width
+span_here setup b address width same one placed bank = record {
+  width_is = one;
+  aligned = placed.aligned;
+  inside = subst (λ n. in_ram n address width ≡ true) same placed.in_ram;
+  bank_is = bank;
+}
+
+pub access_here : (setup : Setup) (b : Bank) (access : Access) → is_ram_access access ≡ true → setup.ram ≡ b.ram → IsPlaced setup access → bank_of b.banks (address_of access) ≡ b.bank → IsHere b access
+access_here setup b (acc.Fetch address) ram same placed bank = span_here setup b address 4 same refl placed bank
+access_here setup b (acc.Pte address) ram same placed bank = span_here setup b address 8 same refl placed bank
+access_here setup b (acc.Read address width) ram same placed bank = span_here setup b address width same placed.0 placed.1 bank
+access_here setup b (acc.Write address width value) ram same placed bank = span_here setup b address width same placed.0 placed.1 bank
+access_here setup b (acc.Lr address width) ram same placed bank = span_here setup b address width same (width_of_atomic width placed.0) placed.1 bank
+access_here setup b (acc.Sc address width value) ram same placed bank = span_here setup b address width same (width_of_atomic width placed.0) placed.1 bank
+access_here setup b (acc.Amo op address width value) ram same placed bank = (placed.0, span_here setup b address width same (width_of_atomic width placed.0) placed.1 bank)
+access_here setup b other ram same placed bank = absurd cc
+
+-- What the bank replies is what flat memory replies.
+
+read_flat : (setup : Setup) (b : Bank) (made : List Done) (address width : ℕ) → IsSpan b address width → IsReplay setup made b
+    → reply_with (value_at (held b) address width) ≡ reply_with (value_at (byte setup.image made) address width)
+read_flat setup b made address width span replay = ap reply_with (value_same (held b) (byte setup.image made) address address width (λ j below. replay.each (address + j) (span_in b address width j span below)))
+
+pub reply_flat : (setup : Setup) (b : Bank) (made : List Done) (hart : ℕ) (access : Access) → hart < 32 → IsHere b access → IsReplay setup made b → reply_of b hart access ≡ flat setup.image made hart access
+reply_flat setup b made hart (acc.Fetch address) below here replay = read_flat setup b made address 4 here replay
+reply_flat setup b made hart (acc.Pte address) below here replay = read_flat setup b made address 8 here replay
+reply_flat setup b made hart (acc.Read address width) below here replay = read_flat setup b made address width here replay
+reply_flat setup b made hart (acc.Write address width value) below here replay = refl
+reply_flat setup b made hart (acc.Lr address width) below here replay = read_flat setup b made address width here replay
+reply_flat setup b made hart (acc.Sc address width value) below here replay = ap (λ place. reply_with (if is_reserved place (granule address) then 0 else 1)) (replay.reservations hart below)
+reply_flat setup b made hart (acc.Amo op address width value) below here replay = read_flat setup b made address width here.1 replay
+reply_flat setup b made hart other below here replay = absurd here
+
+-- The replay goes on.
+
+same_in : (old new : Bank) (address : ℕ) → IsSame old new → IsIn new address → IsIn old address
+same_in old new address same inside = record {
+  ram = subst (λ n. in_ram n address 1 ≡ true) same.ram_is inside.ram;
+  bank = ap (λ n. bank_of n address) (sym same.banks_are) ∙ inside.bank ∙ same.bank_is;
+}
+
+pub replay_push : (setup : Setup) (old new : Bank) (made : List Done) (d : Done) → Follows d old new → IsReplay setup made old → IsReplay setup (made ++ d ∷ []) new
+replay_push setup old new made d after replay = record {
+  ram = after.same.ram_is ∙ replay.ram;
+  each = λ a inside.
+      let here = same_in old new a after.same inside in
+      after.each a here ∙ ap (λ n. left_by a n d.access d.reply) (replay.each a here) ∙ sym (fold_push (λ n (e : Done). left_by a n e.access e.reply) (image_byte setup.image a) made d);
+  reservations = λ h below.
+      after.reservations h below ∙ ap (λ place. reserved_by h place d) (replay.reservations h below) ∙ sym (fold_push (reserved_by h) None made d);
+}

@@ -1,0 +1,81 @@
+-- One bank of memory, as contracts see it, and what it stands for.
+use Rattle.std.specs.Prelude.{◌≡◌, ℕ, ◌+◌, ◌-◌, ◌*◌, ◌/◌, ◌%◌, ◌<◌, ◌≤◌, Bool, true, if◌then◌else◌, List, length, slice_index, slice_index_or, Option, None}
+use Rattle.flex_base.specs.Limits.{mebibyte}
+use Rattle.flex_base.specs.Word.{is_multiple}
+use Rattle.flex_base.specs.Place.{ram_base, in_ram}
+use Rattle.flex_base.specs.Setup.{Setup}
+use Rattle.flex_base.specs.FlatMemory.{Done, byte, covers, reservation_of}
+use Rattle.flex_base.specs.declared.access.Access.{Access}
+use Rattle.flex_base.specs.declared.access.Access.TheVariants as acc
+
+-- the size of the whole RAM in bytes; how many banks there are and which this is; the bytes of its lines, one line after
+-- another; and for each hart the aligned 8 bytes that it has reserved
+pub record Bank : Type 0 where
+  pub ram : ℕ
+  pub banks : ℕ
+  pub bank : ℕ
+  pub bytes : List ℕ
+  pub places : List (Option ℕ)
+
+-- a power of two from 1 to 64, which are the divisors of 64
+abbrev pub is_bank_count : ℕ → Bool
+is_bank_count banks = is_multiple 64 banks
+
+-- the bank of an address: lines of 64 bytes are dealt to the banks in turn
+abbrev pub bank_of : ℕ → ℕ → ℕ
+bank_of banks address = (address / 64) % banks
+
+-- where the bank of an address holds its byte
+unfoldable pub spot : ℕ → ℕ → ℕ
+spot banks address = ((address - ram_base) / 64) / banks * 64 + (address - ram_base) % 64
+
+-- the byte that a bank holds for an address
+abbrev pub held : Bank → ℕ → ℕ
+held b address = slice_index b.bytes (spot b.banks address)
+
+-- the aligned 8 bytes that a hart has reserved
+abbrev pub reserved : Bank → ℕ → Option ℕ
+reserved b hart = slice_index_or b.places hart None
+
+-- the address is in RAM and in this bank
+pub record IsIn (b : Bank) (address : ℕ) : Type 0 where
+  pub ram : in_ram b.ram address 1 ≡ true
+  pub bank : bank_of b.banks address ≡ b.bank
+
+-- each byte of the bank, and the reservation of each hart, are as these accesses left them
+pub record IsReplay (setup : Setup) (made : List Done) (b : Bank) : Type 0 where
+  pub ram : b.ram ≡ setup.ram
+  pub each : (address : ℕ) → IsIn b address → held b address ≡ byte setup.image made address
+  pub reservations : (hart : ℕ) → hart < 32 → reserved b hart ≡ reservation_of made hart
+
+-- these are the size of RAM, the number of banks and the number of the bank
+pub record IsBank (ram banks bank : ℕ) (b : Bank) : Type 0 where
+  pub ram_is : b.ram ≡ ram
+  pub banks_are : b.banks ≡ banks
+  pub bank_is : b.bank ≡ bank
+
+-- the same bank of the same RAM
+abbrev pub IsSame : Bank → Bank → Type 0
+IsSame old new = IsBank old.ram old.banks old.bank new
+
+-- the address of an access of RAM
+abbrev pub address_of : Access → ℕ
+address_of (acc.Fetch address) = address
+address_of (acc.Pte address) = address
+address_of (acc.Read address width) = address
+address_of (acc.Write address width value) = address
+address_of (acc.Lr address width) = address
+address_of (acc.Sc address width value) = address
+address_of (acc.Amo op address width value) = address
+address_of other = 0
+
+-- whole MiB of RAM, of which each bank holds an equal part
+pub record IsWhole (ram banks : ℕ) (bytes : List ℕ) : Type 0 where
+  pub banks_are : is_bank_count banks ≡ true
+  pub mebibytes : is_multiple ram mebibyte ≡ true
+  pub small : ram ≤ 256 * mebibyte
+  pub part : length bytes ≡ ram / banks
+
+-- what a part of the image leaves of the byte at an address
+abbrev pub laid : ℕ → ℕ → ℕ × List ℕ → ℕ
+laid address old part = if covers part.0 (length part.1) address then slice_index part.1 (address - part.0) else old

@@ -1,0 +1,250 @@
+ghost use Rattle.std.specs.Prelude.{◌≡◌, ℕ, ◌+◌, ◌*◌, ◌^◌, ◌<◌, ◌≤◌, ◌⊎◌, true, ◌==◌, if◌then◌else◌, List, [], length, IfOk};
+ghost use Rattle.flex_base.specs.Limits.{is_lawful};
+ghost use Rattle.flex_base.specs.Loaded.{image_fits};
+ghost use Rattle.flex_base.specs.Setup.{Setup};
+ghost use Rattle.flex_base.specs.Forms.{HasForm};
+ghost use Rattle.flex_base.specs.Unsplit.{noted};
+ghost use Rattle.flex_base.specs.FlatMemory.{Done, byte, flat, value_at, put, broken, granule, is_reserved, reply_with};
+ghost use Rattle.mem_lines.specs.Bank.{is_bank_count, spot, held, reserved, IsIn, IsReplay, IsBank, IsSame};
+ghost use Rattle.mem_lines.specs.Steps.{done, IsSpan, IsHere, Follows, reply_of};
+
+use crate::image_bytes::bank_bytes;
+use crate::little_endian::{load, store};
+use crate::reservations::{end_others, granule_of, stands};
+use crate::spots::spot;
+use flex_base::{Access, AmoOp, HartId, Image, Reply, Settings};
+use rv_alu::amo;
+use std::alloc::{AllocError, Global};
+use std::marker::Model;
+
+/// One bank of memory: its 64-byte lines, and the reservations of the harts.
+///
+/// The lines of RAM are dealt to the banks in turn, so the bank of an address is its line's number,
+/// the address divided by 64, modulo the number of banks. An access is little-endian and acts at
+/// once on all of its bytes (Volume I, "Load and Store Instructions" and "A").
+#[derive(Drop)]
+pub struct Lines {
+    ram: u64,
+    banks: u8,
+    bank: u8,
+    bytes: Vec<u8>,
+    places: [Option<u64>; 32],
+}
+
+impl Model for Lines {
+    ghost use Rattle.mem_lines.specs.Bank.{Bank, IsWhole};
+
+    ghost Value = { Bank };
+
+    ghost view = { λ l. record { ram = l.ram; banks = l.banks; bank = l.bank; bytes = l.bytes.items; places = l.places } };
+
+    ghost invariant = { λ l. IsWhole l.ram l.banks l.bytes.items };
+}
+
+impl Lines {
+    /// The bank of this number, of so many, with the bytes of the image and no reservation.
+    ///
+    /// The settings are lawful and the image fits their RAM. The number of banks is a power of two
+    /// from 1 to 64, and the bank is below it. An error means that memory ran out.
+    pub fn new(
+        alloc: Global,
+        image: &Image,
+        settings: &Settings,
+        banks: u8,
+        bank: u8,
+    ) -> Result<Lines, AllocError>
+        requires lawful { is_lawful settings.now ≡ true }
+        requires fits { image_fits settings.now.ram image.now ≡ true }
+        requires banks { is_bank_count banks ≡ true }
+        requires bank { bank < banks }
+        ensures bank { IfOk result (λ lines. IsBank settings.now.ram banks bank lines) }
+        ensures replay { IfOk result (λ lines. (setup : Setup) → setup.image ≡ image.now → setup.ram ≡ settings.now.ram → IsReplay setup [] lines) }
+    {
+        let ram = settings.ram;
+        let bytes = bank_bytes(alloc, ram, banks, bank, &image.parts)?;
+        Ok(Lines {
+            ram,
+            banks,
+            bank,
+            bytes,
+            places: [None; 32],
+        })
+    }
+
+    /// Makes an access of RAM in this bank, by a hart below 32, and replies.
+    ///
+    /// The bytes of the access are 1, 2, 4 or 8, those of an atomic operation 4 or 8, and aligned.
+    /// The reply tells what was read, and of an atomic operation what stood there before. A
+    /// store-conditional writes where the reservation of its hart stands, and replies 0; else it
+    /// replies 1 (Volume I, "Load-Reserved/Store-Conditional Instructions").
+    pub fn act(&mut self, hart: HartId, acc: &Access) -> Reply
+        requires hart { hart.0 < 32 }
+        requires here { IsHere self.old acc.now }
+        ensures flat { (setup : Setup) (made : List Done) → IsReplay setup made self.old → result ≡ flat setup.image made hart.0 acc.now }
+        ensures replay { (setup : Setup) (made : List Done) → IsReplay setup made self.old → IsReplay setup (noted made hart.0 acc.now result) self.new }
+        ensures form { HasForm acc.now result }
+        ensures same { IsSame self.old self.new }
+    {
+        self.make(hart.0, acc)
+    }
+
+    /// The size of the whole RAM in bytes.
+    pub fn ram(&self) -> u64
+        ensures bank { result ≡ self.now.ram }
+        ensures replay { (setup : Setup) (made : List Done) → IsReplay setup made self.now → result ≡ setup.ram }
+    {
+        self.ram
+    }
+
+    /// The byte at an address of this bank.
+    pub fn byte(&self, address: u64) -> u8
+        requires inside { IsIn self.now address }
+        ensures { (setup : Setup) (made : List Done) → IsReplay setup made self.now → result ≡ byte setup.image made address }
+    {
+        let bytes: &[u8] = &self.bytes;
+        bytes[spot(self.banks, address)]
+    }
+
+    // Where the bytes of an access begin.
+    fn start(&self, address: u64, width: u8) -> usize
+        requires span { IsSpan self.now address width }
+        ensures start { result ≡ spot self.now.banks address }
+        ensures within { result + width ≤ length self.now.bytes }
+        ensures few { width ≤ 8 }
+    {
+        spot(self.banks, address)
+    }
+
+    // The little-endian value of so many bytes from the address up.
+    fn value(&self, address: u64, width: u8) -> u64
+        requires span { IsSpan self.now address width }
+        ensures value { result ≡ value_at (held self.now) address width }
+        ensures fits { result < 2 ^ (8 * width) }
+    {
+        let start = self.start(address, width);
+        load(&self.bytes, start, width as usize)
+    }
+
+    // Writes so many bytes of a value, which ends the reservations of other harts.
+    fn write(&mut self, hart: u8, address: u64, width: u8, value: u64)
+        requires span { IsSpan self.old address width }
+        ensures same { IsSame self.old self.new }
+        ensures each { (a : ℕ) → IsIn self.old a → held self.new a ≡ put a (held self.old a) address width value }
+        ensures reservations { (h : ℕ) → reserved self.new h ≡ broken h hart address (reserved self.old h) }
+    {
+        let start = self.start(address, width);
+        store(&mut self.bytes, start, width as usize, value);
+        end_others(&mut self.places, hart, address);
+    }
+
+    // Makes an access of what the bank holds.
+    fn make(&mut self, hart: u8, acc: &Access) -> Reply
+        requires hart { hart < 32 }
+        requires here { IsHere self.old acc.now }
+        ensures reply { result ≡ reply_of self.old hart acc.now }
+        ensures form { HasForm acc.now result }
+        ensures follows { Follows (done hart acc.now result) self.old self.new }
+    {
+        match *acc {
+            Access::Fetch { address } => told(self.value(address, 4)),
+            Access::Pte { address } => told(self.value(address, 8)),
+            Access::Read { address, width } => told(self.value(address, width)),
+            Access::Write {
+                address,
+                width,
+                value,
+            } => {
+                self.write(hart, address, width, value);
+                told(0)
+            }
+            Access::Lr { address, width } => self.load_reserved(hart, address, width),
+            Access::Sc {
+                address,
+                width,
+                value,
+            } => self.store_conditional(hart, address, width, value),
+            Access::Amo {
+                op,
+                address,
+                width,
+                value,
+            } => self.modify(hart, op, address, width, value),
+            Access::DevRead { .. } | Access::DevWrite { .. } | Access::Pulse { .. } => told(0),
+            Access::Wait { .. } | Access::Retire | Access::Time => told(0),
+        }
+    }
+
+    fn load_reserved(&mut self, hart: u8, address: u64, width: u8) -> Reply
+        requires hart { hart < 32 }
+        requires span { IsSpan self.old address width }
+        ensures reply { result ≡ reply_of self.old hart (Access.Lr address width) }
+        ensures form { HasForm (Access.Lr address width) result }
+        ensures follows { Follows (done hart (Access.Lr address width) result) self.old self.new }
+    {
+        let value = self.value(address, width);
+        self.reserve(hart, Some(granule_of(address)));
+        told(value)
+    }
+
+    fn store_conditional(&mut self, hart: u8, address: u64, width: u8, value: u64) -> Reply
+        requires hart { hart < 32 }
+        requires span { IsSpan self.old address width }
+        ensures reply { result ≡ reply_of self.old hart (Access.Sc address width value) }
+        ensures form { HasForm (Access.Sc address width value) result }
+        ensures follows { Follows (done hart (Access.Sc address width value) result) self.old self.new }
+    {
+        if self.has_reserved(hart, address) {
+            self.write(hart, address, width, value);
+            self.reserve(hart, None);
+            told(0)
+        } else {
+            self.reserve(hart, None);
+            told(1)
+        }
+    }
+
+    fn modify(&mut self, hart: u8, op: AmoOp, address: u64, width: u8, value: u64) -> Reply
+        requires hart { hart < 32 }
+        requires atomic { (width ≡ 4) ⊎ (width ≡ 8) }
+        requires span { IsSpan self.old address width }
+        ensures reply { result ≡ reply_of self.old hart (Access.Amo op address width value) }
+        ensures form { HasForm (Access.Amo op address width value) result }
+        ensures follows { Follows (done hart (Access.Amo op address width value) result) self.old self.new }
+    {
+        let old = self.value(address, width);
+        self.write(hart, address, width, amo(op, old, value, width));
+        told(old)
+    }
+
+    // Sets what a hart has reserved.
+    fn reserve(&mut self, hart: u8, place: Option<u64>)
+        requires hart { hart < 32 }
+        ensures same { IsSame self.old self.new }
+        ensures each { (a : ℕ) → held self.new a ≡ held self.old a }
+        ensures reservations { (h : ℕ) → reserved self.new h ≡ (if h == hart then place else reserved self.old h) }
+    {
+        self.places[hart as usize] = place;
+    }
+
+    // Whether a hart's reservation of the 8 bytes of this address stands.
+    fn has_reserved(&self, hart: u8, address: u64) -> bool
+        requires hart { hart < 32 }
+        ensures { result ≡ is_reserved (reserved self.now hart) (granule address) }
+    {
+        stands(self.places[hart as usize], granule_of(address))
+    }
+}
+
+// A reply that tells a value and nothing else.
+fn told(value: u64) -> Reply
+    ensures { result ≡ reply_with value }
+{
+    Reply {
+        value,
+        lines: 0,
+        stop: false,
+    }
+}
+
+#[cfg(test)]
+mod tests;
