@@ -4,7 +4,7 @@ use Rattle.std.proofs.lemmas.Bool.Decides.{nat_tests}
 use Rattle.std.proofs.lemmas.List.Sums.{fold_push, fold-append}
 use Rattle.flex_base.specs.Setup.{Setup}
 use Rattle.flex_base.specs.State.{State}
-use Rattle.flex_base.specs.Story.{Want, Asks, Ends, IsOver, IsLater, Story, Says, goes, want, story}
+use Rattle.flex_base.specs.Story.{Want, Asks, Ends, IsOver, IsLater, Story, Says, goes, want, story, after_one}
 use Rattle.flex_base.specs.Unsplit.{Machine, Half, half_of, does, half_at, story_of, want_of, reply_to, stepped, make, step, reach_from}
 use Rattle.flex_base.specs.declared.access.Access.{Access}
 use Rattle.flex_base.specs.declared.access.Reply.{Reply}
@@ -12,7 +12,7 @@ use Rattle.flex_base.specs.Journal.{is_handover}
 use Rattle.flex_base.specs.declared.event.EndPart.{EndPart}
 use Rattle.flex_base.specs.declared.event.What.{What}
 use Rattle.flex_base.specs.declared.event.What.TheVariants as what
-use Rattle.flex_base.proofs.Stories.{after_one, goes_push}
+use Rattle.flex_base.proofs.Stories.{goes_push}
 
 -- one more name
 pub reach_push : (setup : Setup) (u : Machine) (order : List ℕ) (h : ℕ) → reach_from setup u (order ++ h ∷ []) ≡ step setup (reach_from setup u order) h

@@ -5,17 +5,10 @@ use Rattle.flex_base.specs.Setup.{Setup}
 use Rattle.flex_base.specs.State.{State}
 use Rattle.flex_base.specs.Place.{in_ram}
 use Rattle.flex_base.specs.Decoding.{decoded}
-use Rattle.flex_base.specs.Story.{Want, Asks, Ends, IsOver, IsLater, Story, Says, Closes, StaysOver, ComesLater, story, pulses, fetches, works, traps, is_tick, goes, want, ask}
+use Rattle.flex_base.specs.Story.{Want, Asks, Ends, IsOver, IsLater, Story, Says, Closes, StaysOver, ComesLater, story, pulses, fetches, works, traps, is_tick, goes, want, ask, after_one}
 use Rattle.flex_base.specs.declared.access.Access.TheVariants as acc
 use Rattle.flex_base.specs.declared.access.Reply.{Reply}
 use Rattle.flex_base.specs.declared.event.EndPart.{EndPart}
-
--- what follows one reply
-abbrev pub after_one : Story → Reply → Story
-after_one (Says access next) reply = next reply
-after_one (Closes part after) reply = Closes part after
-after_one StaysOver reply = StaysOver
-after_one ComesLater reply = ComesLater
 
 pub goes_push : (s : Story) (replies : List Reply) (reply : Reply) → goes s (replies ++ reply ∷ []) ≡ after_one (goes s replies) reply
 goes_push (Says access next) [] reply = refl
@@ -52,7 +45,7 @@ story_unspent setup a unspent = ap (λ b. if b then retires else pulses setup a)
 pub story_due : (setup : Setup) (a : State) → a.ends ≢ setup.budget → a.due ≡ true → story setup a ≡ Says (acc.Pulse (is_tick a)) (after_pulse setup a)
 story_due setup a unspent due = story_unspent setup a unspent ∙ ap (λ b. if b then Says (acc.Pulse (is_tick a)) (after_pulse setup a) else fetches setup a) due
 
-story_undue : (setup : Setup) (a : State) → a.ends ≢ setup.budget → a.due ≡ false → story setup a ≡ fetches setup a
+pub story_undue : (setup : Setup) (a : State) → a.ends ≢ setup.budget → a.due ≡ false → story setup a ≡ fetches setup a
 story_undue setup a unspent undue = story_unspent setup a unspent ∙ ap (λ b. if b then Says (acc.Pulse (is_tick a)) (after_pulse setup a) else fetches setup a) undue
 
 pub story_fetches : (setup : Setup) (a : State) → a.ends ≢ setup.budget → a.due ≡ false → in_ram setup.ram a.pc 4 ≡ true → story setup a ≡ goes_on setup a
@@ -69,7 +62,7 @@ IsBeginning (Ends part after) = ⊥
 IsBeginning IsOver = ⊥
 IsBeginning IsLater = Unit {0}
 
-fetches_begin : (setup : Setup) (a : State) → IsBeginning (want (fetches setup a))
+pub fetches_begin : (setup : Setup) (a : State) → IsBeginning (want (fetches setup a))
 fetches_begin setup a = elim (in_ram setup.ram a.pc 4) as (λ b. IsBeginning (want (if b then goes_on setup a else traps a 1 a.pc))) [ true ↦ tt | false ↦ tt ]
 
 pulses_begin : (setup : Setup) (a : State) → IsBeginning (want (pulses setup a))

@@ -11,6 +11,9 @@ use Rattle.flex_base.specs.declared.class.Class.TheVariants as class
 -- the kinds of access that are built
 abbrev pub is_built_access : Access → Bool
 is_built_access (acc.Fetch address) = true
+is_built_access (acc.Read address width) = true
+is_built_access (acc.Write address width value) = true
+is_built_access (acc.Pulse tick) = true
 is_built_access acc.Retire = true
 is_built_access other = false
 
@@ -18,6 +21,8 @@ is_built_access other = false
 abbrev pub is_built_class : Class → Bool
 is_built_class class.Alu = true
 is_built_class class.Jump = true
+is_built_class class.Load = true
+is_built_class class.Store = true
 is_built_class class.Fence = true
 is_built_class other = false
 

@@ -1,7 +1,7 @@
 -- The story of one instruction: what a hart does, from the state at the start and the replies so far.
-use Rattle.std.specs.Prelude.{ℕ, ◌+◌, ◌-◌, ◌%◌, Bool, not, ◌&&◌, ◌==◌, nat_lt, if◌then◌else◌, List, [], ◌∷◌}
-use Rattle.flex_base.specs.Word.{wrap, is_multiple}
-use Rattle.flex_base.specs.Place.{in_ram}
+use Rattle.std.specs.Prelude.{ℕ, ◌+◌, ◌-◌, ◌*◌, ◌%◌, Bool, not, ◌&&◌, ◌==◌, nat_lt, if◌then◌else◌, List, [], ◌∷◌}
+use Rattle.flex_base.specs.Word.{wrap, low, sign_extend, is_multiple}
+use Rattle.flex_base.specs.Place.{in_ram, place_of}
 use Rattle.flex_base.specs.Decoding.{decoded}
 use Rattle.flex_base.specs.Arithmetic.{alu_of, signed_lt}
 use Rattle.std.specs.Int.{w64}
@@ -14,6 +14,8 @@ use Rattle.flex_base.specs.declared.class.Class.{Class}
 use Rattle.flex_base.specs.declared.class.Class.TheVariants as class
 use Rattle.flex_base.specs.declared.event.EndPart.{EndPart}
 use Rattle.flex_base.specs.declared.operation.Op.{Op}
+use Rattle.flex_base.specs.declared.settings.Place.{Place}
+use Rattle.flex_base.specs.declared.settings.Place.TheVariants as place
 use Rattle.flex_base.specs.declared.operation.Op.TheVariants as op
 use Rattle.flex_base.specs.declared.operation.BranchOp.{BranchOp}
 use Rattle.flex_base.specs.declared.operation.BranchOp.TheVariants as branch
@@ -71,6 +73,32 @@ is_taken branch.Geu x y = not (nat_lt x y)
 abbrev pub branches : State → Bool → ℕ → Story
 branches a taken target = if taken then jumps a target 0 else passes a class.Jump
 
+-- a value of so many bytes as a register holds it
+abbrev pub extended : Bool → ℕ → ℕ → ℕ
+extended signed width value = if signed then sign_extend (8 * width) (low (8 * width) value) else value
+
+-- the work at aligned bytes: in RAM the access that is given, elsewhere an access fault of this cause; devices come later
+abbrev pub at_place : Place → Story → Story → Story
+at_place place.Ram access fault = access
+at_place place.Device access fault = ComesLater
+at_place place.Nowhere access fault = fault
+
+-- an access of so many bytes tests its alignment and then its place (Volume I, "Load and Store Instructions";
+-- misaligned accesses trap)
+abbrev pub reaches : Setup → State → ℕ → ℕ → ℕ → ℕ → Story → Story
+reaches setup a address width misaligned fault access =
+    if is_multiple address width then at_place (place_of setup.harts setup.ram address width) access (traps a fault address) else traps a misaligned address
+
+-- a load
+abbrev pub loads : Setup → State → ℕ → Bool → ℕ → ℕ → Story
+loads setup a width signed rd address = reaches setup a address width 4 5
+    (Says (acc.Read address width) (λ reply. ends a class.Load (wrap (a.pc + 4)) rd (extended signed width reply.value)))
+
+-- a store; the value is cut to its width
+abbrev pub stores : Setup → State → ℕ → ℕ → ℕ → Story
+stores setup a width address value = reaches setup a address width 6 7
+    (Says (acc.Write address width (low (8 * width) value)) (λ reply. passes a class.Store))
+
 -- the work of a decoded instruction
 abbrev pub works : Setup → State → Op → Story
 works setup a (op.Lui rd imm) = computes a rd imm
@@ -80,6 +108,8 @@ works setup a (op.AluReg does rd rs1 rs2) = computes a rd (alu_of does (reg a rs
 works setup a (op.Jal rd imm) = jumps a (wrap (a.pc + imm)) rd
 works setup a (op.Jalr rd rs1 imm) = jumps a (even (wrap (reg a rs1 + imm))) rd
 works setup a (op.Branch compares rs1 rs2 imm) = branches a (is_taken compares (reg a rs1) (reg a rs2)) (wrap (a.pc + imm))
+works setup a (op.Load width signed rd rs1 imm) = loads setup a width signed rd (wrap (reg a rs1 + imm))
+works setup a (op.Store width rs1 rs2 imm) = stores setup a width (wrap (reg a rs1 + imm)) (reg a rs2)
 works setup a (op.Fence free) = passes a class.Fence
 works setup a (op.FenceI free) = passes a class.Fence
 works setup a (op.Illegal word) = traps a 2 word
@@ -106,6 +136,13 @@ abbrev pub story : Setup → State → Story
 story setup a = if a.ends == setup.budget
     then Says acc.Retire (λ reply. StaysOver)
     else pulses setup a
+
+-- what follows one reply
+abbrev pub after_one : Story → Reply → Story
+after_one (Says access next) reply = next reply
+after_one (Closes part after) reply = Closes part after
+after_one StaysOver reply = StaysOver
+after_one ComesLater reply = ComesLater
 
 -- where the replies lead
 abbrev pub goes : Story → List Reply → Story

@@ -33,16 +33,16 @@ unbuilt_on setup u names built =
     ∙ ap (λ o. first_of o (first_unbuilt setup (step setup u 0) (turn_of setup (step setup u 0) 0))) built
 
 -- the turn goes on where the access left it
-pub turned_on : (setup : Setup) (u : Machine) (t : Turn) (player next : Player) (memory : List ℕ) → Accesses setup u player memory → AfterTurn setup (step setup u 0) t next memory → AfterTurn setup u t next memory
-turned_on setup u turn.Ended player next memory on after =
+pub turned_on : (setup : Setup) (u : Machine) (t : Turn) (player next : Player) (before memory : List ℕ) → Accesses setup u player before → AfterTurn setup (step setup u 0) t next memory → AfterTurn setup u t next memory
+turned_on setup u turn.Ended player next before memory on after =
     let At : Machine → Type 0 = λ m. IsAt setup m next memory in
     record { at = subst At (reach_on setup u on.names) after.at; built = unbuilt_on setup u on.names on.built ∙ after.built }
-turned_on setup u turn.Over player next memory on after =
+turned_on setup u turn.Over player next before memory on after =
     let At : Machine → Type 0 = λ m. IsAt setup m next memory in (
       record { at = subst At (reach_on setup u on.names) after.0.at; built = unbuilt_on setup u on.names on.built ∙ after.0.built },
       ap (has_ended setup) (sym (reach_on setup u on.names)) ∙ after.1,
     )
-turned_on setup u (turn.Unbuilt pc) player next memory on after = unbuilt_on setup u on.names on.built ∙ after
+turned_on setup u (turn.Unbuilt pc) player next before memory on after = unbuilt_on setup u on.names on.built ∙ after
 
 pub turned_once : (setup : Setup) (u : Machine) (player : Player) (memory : List ℕ) → Finishes setup u player memory → IsTurned setup u player memory
 turned_once setup u player memory after =
@@ -131,24 +131,24 @@ built_more setup names built =
     first_unbuilt-append setup (begin setup) names (turn_of setup (reach setup names) 0)
     ∙ ap (λ o. first_of o (first_unbuilt setup (reach setup names) (turn_of setup (reach setup names) 0))) built
 
-pub playing_more : (setup : Setup) (player next : Player) (memory : List ℕ) (k : ℕ) → (playing : Playing setup player memory k) → player.progress ≡ progress.Begun → k < most_rounds setup
+pub playing_more : (setup : Setup) (player next : Player) (before memory : List ℕ) (k : ℕ) → (playing : Playing setup player before k) → player.progress ≡ progress.Begun → k < most_rounds setup
     → IsTurned setup (reach setup playing.names) next memory → Playing setup next memory (k + 1)
-playing_more setup player next memory k playing begun below turned =
+playing_more setup player next before memory k playing begun below turned =
     let At : Machine → Type 0 = λ m. IsAt setup m next memory in
     record {
       names = after_turn setup playing.names;
       at = subst At (reach_turn setup playing.names) turned.at;
-      order = order_more setup player memory k playing begun below;
+      order = order_more setup player before k playing begun below;
       built = built_more setup playing.names playing.built ∙ turned.built;
     }
 
-pub played_all : (setup : Setup) (player next : Player) (memory : List ℕ) (k : ℕ) → (playing : Playing setup player memory k) → player.progress ≡ progress.Begun → k < most_rounds setup
+pub played_all : (setup : Setup) (player next : Player) (before memory : List ℕ) (k : ℕ) → (playing : Playing setup player before k) → player.progress ≡ progress.Begun → k < most_rounds setup
     → IsTurned setup (reach setup playing.names) next memory → has_ended setup (reach_from setup (reach setup playing.names) (turn_of setup (reach setup playing.names) 0)) ≡ true
     → HasPlayed setup next memory
-played_all setup player next memory k playing begun below turned ended =
+played_all setup player next before memory k playing begun below turned ended =
     let names = after_turn setup playing.names in
     let over = ap (has_ended setup) (sym (reach_turn setup playing.names)) ∙ ended in
-    let order : solo_order setup ≡ names = order_more setup player memory k playing begun below
+    let order : solo_order setup ≡ names = order_more setup player before k playing begun below
     ∙ ap (λ ns. names ++ ns) (turns_ended setup (reach setup names) (repeated (most_rounds setup - (k + 1)) (hart_numbers setup)) over)
     ∙ append-nil names in
     let Reached : Machine → Type 0 = λ m. IsAt setup m next memory in

@@ -1,24 +1,43 @@
-ghost use Rattle.std.specs.Prelude.{◌≡◌, ℕ, ◌+◌, ◌*◌, ◌^◌, ◌<◌, ◌≤◌, true, length, slice_index};
+ghost use Rattle.std.specs.Prelude.{◌≡◌, ℕ, ◌+◌, ◌-◌, ◌^◌, ◌<◌, ◌≤◌, true, length, slice_index};
+ghost use Rattle.flex_base.specs.Place.{ram_base};
 ghost use Rattle.flex_base.specs.Setup.{Setup};
 ghost use Rattle.flex_base.specs.Built.{is_built_access};
 ghost use Rattle.flex_base.specs.Forms.{HasForm, IsPlaced};
-ghost use Rattle.flex_base.specs.FlatMemory.{value_at, reply_with};
+ghost use Rattle.flex_base.specs.FlatMemory.{value_at, reply_with, put};
 ghost use Rattle.flex_base.specs.Unsplit.{Machine, reply_to};
-ghost use Rattle.flex_top.specs.Memory.{IsReplay};
+ghost use Rattle.flex_top.specs.Memory.{IsReplay, replayed};
 
 use flex_base::{Access, RAM_BASE, Reply};
 
-// The reply to an access that is built, by all bytes of RAM.
-pub(crate) fn reply(memory: &[u8], access: &Access) -> Reply
+// Makes an access that is built on all bytes of RAM. Without devices a pulse tells nothing.
+pub(crate) fn act(memory: &mut [u8], access: &Access) -> Reply
     requires built { is_built_access access.now ≡ true }
-    requires placed { (setup : Setup) × (setup.ram ≡ length memory.now) × IsPlaced setup access.now }
+    requires placed { (setup : Setup) × (setup.ram ≡ length memory.old) × IsPlaced setup access.now }
     ensures form { HasForm access.now result }
-    ensures flat { (setup : Setup) (u : Machine) (h : ℕ) → IsPlaced setup access.now → IsReplay setup memory.now u.ram → result ≡ reply_to setup u h access.now }
+    ensures flat { (setup : Setup) (u : Machine) (h : ℕ) → IsPlaced setup access.now → IsReplay setup memory.old u.ram → result ≡ reply_to setup u h access.now }
+    ensures replay { (setup : Setup) (u : Machine) (h : ℕ) → IsPlaced setup access.now → IsReplay setup memory.old u.ram → IsReplay setup memory.new (replayed u.ram h access.now result) }
 {
     match *access {
-        Access::Fetch { address } => told(read(memory, (address - RAM_BASE) as usize, 4)),
+        Access::Fetch { address } => told(read(memory, place(address), 4)),
+        Access::Read { address, width } => told(read(memory, place(address), width as usize)),
+        Access::Write {
+            address,
+            width,
+            value,
+        } => {
+            write(memory, place(address), width as usize, value);
+            told(0)
+        }
         _ => told(0),
     }
+}
+
+// Where the byte of an address stands among all bytes of RAM.
+fn place(address: u64) -> usize
+    requires { ram_base ≤ address }
+    ensures { result ≡ address - ram_base }
+{
+    (address - RAM_BASE) as usize
 }
 
 // A reply that tells a value and nothing else.
@@ -44,4 +63,16 @@ fn read(memory: &[u8], at: usize, width: usize) -> u64
         value = 256 * value + memory[at + (width - 1 - i)] as u64;
     }
     value
+}
+
+// Writes the lowest bytes of a value, little-endian.
+fn write(memory: &mut [u8], at: usize, width: usize, value: u64)
+    requires { at + width ≤ length memory.old }
+    ensures { (i : ℕ) → slice_index memory.new i ≡ put i (slice_index memory.old i) at width value }
+{
+    let mut rest = value;
+    for i in 0..width {
+        memory[at + i] = (rest % 256) as u8;
+        rest /= 256;
+    }
 }

@@ -2,7 +2,7 @@ ghost use Rattle.std.specs.Prelude.{◌≡◌, ◌^◌, ◌<◌, IfOk};
 ghost use Rattle.flex_base.specs.Setup.{Setup};
 ghost use Rattle.flex_base.specs.Unsplit.{Machine, begin};
 
-use crate::memory::reply;
+use crate::memory::act;
 use crate::split_run::SplitRun;
 use flex_base::{HartId, Layout, What};
 use hart_story::{Hart, Need, Progress, finish, give, need};
@@ -59,14 +59,14 @@ impl Player {
     }
 
     // Makes the next event, where there is one that is built.
-    pub(crate) fn step(&mut self, memory: &[u8]) -> Result<Step, AllocError>
-        requires at { (setup : Setup) × (u : Machine) × IsAt setup u self.old memory.now }
-        ensures after { IfOk result (λ turn. (setup : Setup) (u : Machine) → IsAt setup u self.old memory.now → AfterStep setup u turn self.new memory.now) }
+    pub(crate) fn step(&mut self, memory: &mut [u8]) -> Result<Step, AllocError>
+        requires at { (setup : Setup) × (u : Machine) × IsAt setup u self.old memory.old }
+        ensures after { IfOk result (λ turn. (setup : Setup) (u : Machine) → IsAt setup u self.old memory.old → AfterStep setup u turn self.new memory.new) }
         ensures counts { IfOk result (λ turn. StepCounts turn self.old self.new) }
     {
         match need(&self.hart, &self.progress, &self.layout, self.budget) {
             Need::Ask(access, _) => {
-                let told = reply(memory, &access);
+                let told = act(memory, &access);
                 give(
                     &self.hart,
                     &mut self.progress,
@@ -89,9 +89,9 @@ impl Player {
     }
 
     // Makes the hart's events up to and including its next end.
-    pub(crate) fn turn(&mut self, memory: &[u8]) -> Result<Turn, AllocError>
-        requires at { (setup : Setup) × (u : Machine) × IsAt setup u self.old memory.now }
-        ensures after { IfOk result (λ turn. (setup : Setup) (u : Machine) → IsAt setup u self.old memory.now → AfterTurn setup u turn self.new memory.now) }
+    pub(crate) fn turn(&mut self, memory: &mut [u8]) -> Result<Turn, AllocError>
+        requires at { (setup : Setup) × (u : Machine) × IsAt setup u self.old memory.old }
+        ensures after { IfOk result (λ turn. (setup : Setup) (u : Machine) → IsAt setup u self.old memory.old → AfterTurn setup u turn self.new memory.new) }
         ensures counts { IfOk result (λ turn. TurnCounts turn self.old self.new) }
     {
         match self.step(memory)? {
@@ -103,12 +103,12 @@ impl Player {
     }
 
     // Plays the rounds until the run has ended, or to an event that isn't built, whose `pc` it gives.
-    pub(crate) fn play(&mut self, memory: &[u8]) -> Result<Option<u64>, AllocError>
+    pub(crate) fn play(&mut self, memory: &mut [u8]) -> Result<Option<u64>, AllocError>
         requires few { self.old.budget < 2 ^ 32 }
         requires begun { self.old.progress ≡ Progress.Begun }
         requires unspent { self.old.hart.ends ≡ 0 }
-        requires at { (setup : Setup) × IsAt setup (begin setup) self.old memory.now }
-        ensures { IfOk result (λ pc. (setup : Setup) → IsAt setup (begin setup) self.old memory.now → Played setup pc self.new memory.now) }
+        requires at { (setup : Setup) × IsAt setup (begin setup) self.old memory.old }
+        ensures { IfOk result (λ pc. (setup : Setup) → IsAt setup (begin setup) self.old memory.old → Played setup pc self.new memory.new) }
     {
         'rounds: for _ in 0..10 * self.budget + 1 {
             match self.turn(memory)? {

@@ -4,7 +4,7 @@ ghost use Rattle.flex_base.specs.Journal.{console};
 ghost use Rattle.flex_base.specs.Files.{Counts, ChangesFile};
 ghost use Rattle.flex_top.specs.Answer.{setup_of, answer_of_setup, IsAnswer, IsWhole, journal_of, trace_of};
 ghost use Rattle.flex_top.specs.Play.{HasPlayed};
-ghost use Rattle.flex_top.specs.Ready.{IsPrepared};
+ghost use Rattle.flex_top.specs.Ready.{IsReady, IsPrepared};
 ghost use Rattle.flex_top.specs.Written.{Becomes, BecomesPart};
 
 use crate::pieces::Pieces;
@@ -64,17 +64,43 @@ impl Prepared {
     {
         let Prepared {
             mut player,
-            memory,
+            mut memory,
             mut pieces,
         } = self;
-        match player.play(&memory) {
-            Ok(None) => match write(outer, name, &mut pieces, &player, &memory) {
-                Ok(()) => Status::Ended,
-                Err(Failed) => Status::WriteFault,
-            },
-            Ok(Some(pc)) => Status::Unbuilt(Some(pc)),
-            Err(_) => Status::OutOfMemory,
-        }
+        play_and_write(&mut player, &mut memory, &mut pieces, name, outer)
+    }
+}
+
+// Plays the run over these bytes of RAM, and writes its trace where it has ended.
+fn play_and_write<O: Outer>(
+    player: &mut Player,
+    memory: &mut [u8],
+    pieces: &mut Pieces,
+    name: &str,
+    outer: &mut O,
+) -> Status
+    requires few { player.old.budget < 2 ^ 32 }
+    requires ready { (setup : Setup) × IsReady setup player.old memory.old }
+    ensures answer { (setup : Setup) → IsReady setup player.old memory.old → IsAnswer (answer_of_setup setup) result }
+    ensures not_read { result ≢ Status.ReadFault }
+    ensures trace { (setup : Setup) → IsReady setup player.old memory.old → result ≡ Status.Ended → ChangesFile (O.written outer.old) (O.written outer.new) name.now (Becomes (trace_of setup)) }
+    ensures cut { (setup : Setup) → IsReady setup player.old memory.old → result ≡ Status.WriteFault → ChangesFile (O.written outer.old) (O.written outer.new) name.now (BecomesPart (trace_of setup)) }
+    ensures whole { (setup : Setup) → IsReady setup player.old memory.old → result ≡ Status.Ended → IsWhole setup }
+    ensures quiet { (setup : Setup) → IsReady setup player.old memory.old → result ≡ Status.Ended → console (journal_of setup) ≡ [] }
+    ensures nothing { result ≢ Status.Ended → result ≢ Status.WriteFault → O.written outer.new ≡ O.written outer.old }
+    ensures cause { Counts (O.write_faults outer.old) (O.write_faults outer.new) (result ≡ Status.WriteFault) }
+
+    ensures read_faults { O.read_faults outer.new ≡ O.read_faults outer.old }
+    ensures held { O.held outer.new ≡ O.held outer.old }
+    ensures said { O.said outer.new ≡ O.said outer.old }
+{
+    match player.play(memory) {
+        Ok(None) => match write(outer, name, pieces, player, memory) {
+            Ok(()) => Status::Ended,
+            Err(Failed) => Status::WriteFault,
+        },
+        Ok(Some(pc)) => Status::Unbuilt(Some(pc)),
+        Err(_) => Status::OutOfMemory,
     }
 }
 

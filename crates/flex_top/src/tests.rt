@@ -28,86 +28,41 @@ ram 575d345454397c06aea295d74398d2e121e4ea818b6b57ac788216150823cd36
 done
 ";
 
-// Adds 5, 4, 3, 2 and 1, with a shift and a comparison in each round, and then jumps to itself: `addi x5, x0, 5`,
-// `addi x6, x0, 0`, then `add x6, x6, x5`, `slli x7, x6, 2`, `slt x8, x5, x7`, `addi x5, x5, -1` and
-// `bne x5, x0, -16` five times, and `jal x0, 0`.
-const LOOP: [u8; 32] = [
-    0x93, 0x02, 0x50, 0x00, 0x13, 0x03, 0x00, 0x00, 0x33, 0x03, 0x53, 0x00, 0x93, 0x13, 0x23, 0x00,
-    0x33, 0xa4, 0x72, 0x00, 0x93, 0x82, 0xf2, 0xff, 0xe3, 0x98, 0x02, 0xfe, 0x6f, 0x00, 0x00, 0x00,
+// A program that loads the word that stands behind it, stores it over an instruction that follows, and executes that:
+// `auipc x5, 0`, `lw x6, 20(x5)`, `sw x6, 12(x5)`, no instruction, `jal x0, 0`, and `addi x7, x0, 1` as the word.
+const REWRITING: [u8; 24] = [
+    0x97, 0x02, 0x00, 0x00, 0x03, 0xa3, 0x42, 0x01, 0x23, 0xa6, 0x62, 0x00, 0x00, 0x00, 0x00, 0x00,
+    0x6f, 0x00, 0x00, 0x00, 0x93, 0x03, 0x10, 0x00,
 ];
 
-const LOOP_TRACE: &str = "trace 1 harts 1 ram 1 budget 30
-0 0 p fetch 0000000080000000 00500293
-1 0 p end alu 0000000080000000 0000000080000004 x5 0000000000000005
-2 0 p fetch 0000000080000004 00000313
-3 0 p end alu 0000000080000004 0000000080000008 x6 0000000000000000
-4 0 p fetch 0000000080000008 00530333
-5 0 p end alu 0000000080000008 000000008000000c x6 0000000000000005
-6 0 p fetch 000000008000000c 00231393
-7 0 p end alu 000000008000000c 0000000080000010 x7 0000000000000014
-8 0 p fetch 0000000080000010 0072a433
-9 0 p end alu 0000000080000010 0000000080000014 x8 0000000000000001
-10 0 p fetch 0000000080000014 fff28293
-11 0 p end alu 0000000080000014 0000000080000018 x5 0000000000000004
-12 0 p fetch 0000000080000018 fe0298e3
-13 0 p end jump 0000000080000018 0000000080000008 x0 0000000000000000
-14 0 p fetch 0000000080000008 00530333
-15 0 p end alu 0000000080000008 000000008000000c x6 0000000000000009
-16 0 p fetch 000000008000000c 00231393
-17 0 p end alu 000000008000000c 0000000080000010 x7 0000000000000024
-18 0 p fetch 0000000080000010 0072a433
-19 0 p end alu 0000000080000010 0000000080000014 x8 0000000000000001
-20 0 p fetch 0000000080000014 fff28293
-21 0 p end alu 0000000080000014 0000000080000018 x5 0000000000000003
-22 0 p fetch 0000000080000018 fe0298e3
-23 0 p end jump 0000000080000018 0000000080000008 x0 0000000000000000
-24 0 p fetch 0000000080000008 00530333
-25 0 p end alu 0000000080000008 000000008000000c x6 000000000000000c
-26 0 p fetch 000000008000000c 00231393
-27 0 p end alu 000000008000000c 0000000080000010 x7 0000000000000030
-28 0 p fetch 0000000080000010 0072a433
-29 0 p end alu 0000000080000010 0000000080000014 x8 0000000000000001
-30 0 p fetch 0000000080000014 fff28293
-31 0 p end alu 0000000080000014 0000000080000018 x5 0000000000000002
-32 0 p fetch 0000000080000018 fe0298e3
-33 0 p end jump 0000000080000018 0000000080000008 x0 0000000000000000
-34 0 p fetch 0000000080000008 00530333
-35 0 p end alu 0000000080000008 000000008000000c x6 000000000000000e
-36 0 p fetch 000000008000000c 00231393
-37 0 p end alu 000000008000000c 0000000080000010 x7 0000000000000038
-38 0 p fetch 0000000080000010 0072a433
-39 0 p end alu 0000000080000010 0000000080000014 x8 0000000000000001
-40 0 p fetch 0000000080000014 fff28293
-41 0 p end alu 0000000080000014 0000000080000018 x5 0000000000000001
-42 0 p fetch 0000000080000018 fe0298e3
-43 0 p end jump 0000000080000018 0000000080000008 x0 0000000000000000
-44 0 p fetch 0000000080000008 00530333
-45 0 p end alu 0000000080000008 000000008000000c x6 000000000000000f
-46 0 p fetch 000000008000000c 00231393
-47 0 p end alu 000000008000000c 0000000080000010 x7 000000000000003c
-48 0 p fetch 0000000080000010 0072a433
-49 0 p end alu 0000000080000010 0000000080000014 x8 0000000000000001
-50 0 p fetch 0000000080000014 fff28293
-51 0 p end alu 0000000080000014 0000000080000018 x5 0000000000000000
-52 0 p fetch 0000000080000018 fe0298e3
-53 0 p end jump 0000000080000018 000000008000001c x0 0000000000000000
-54 0 p fetch 000000008000001c 0000006f
-55 0 p end jump 000000008000001c 000000008000001c x0 0000000000000000
-56 0 p fetch 000000008000001c 0000006f
-57 0 p end jump 000000008000001c 000000008000001c x0 0000000000000000
-58 0 p fetch 000000008000001c 0000006f
-59 0 p end jump 000000008000001c 000000008000001c x0 0000000000000000
-60 0 p to k
-61 0 k retire
+// `addi x5, x0, 7`, `lui x6, 256`, `lui x7, 5`, `addi x7, x7, 1365`, and `sw x7, 0(x6)`, which is outside RAM.
+const OUTSIDE: [u8; 20] = [
+    0x93, 0x02, 0x70, 0x00, 0x37, 0x03, 0x10, 0x00, 0xb7, 0x53, 0x00, 0x00, 0x93, 0x83, 0x53, 0x55,
+    0x23, 0x20, 0x73, 0x00,
+];
+
+const REWRITTEN: &str = "trace 1 harts 1 ram 1 budget 4
+0 0 p fetch 0000000080000000 00000297
+1 0 p end alu 0000000080000000 0000000080000004 x5 0000000080000000
+2 0 p fetch 0000000080000004 0142a303
+3 0 p read 0000000080000014 4 0000000000100393
+4 0 p end load 0000000080000004 0000000080000008 x6 0000000000100393
+5 0 p fetch 0000000080000008 0062a623
+6 0 p write 000000008000000c 4 0000000000100393
+7 0 p end store 0000000080000008 000000008000000c x0 0000000000000000
+8 0 p fetch 000000008000000c 00100393
+9 0 p end alu 000000008000000c 0000000080000010 x7 0000000000000001
+10 0 p to k
+11 0 k retire
 stop budget
-hart 0 ends 30 mode m pc 000000008000001c
-hart 0 x6 000000000000000f
-hart 0 x7 000000000000003c
-hart 0 x8 0000000000000001
+hart 0 ends 4 mode m pc 0000000080000010
+hart 0 x5 0000000080000000
+hart 0 x6 0000000000100393
+hart 0 x7 0000000000000001
 hart 0 csr 300 0000000a00000000
-hart 0 csr b00 000000000000001e
-hart 0 csr b02 000000000000001e
-ram dc1b134463bb8e1764796f4259957580818e63ff4119fc659b5772eba4fce587
+hart 0 csr b00 0000000000000004
+hart 0 csr b02 0000000000000004
+ram 836e82e96c7a713328e991a48d8ce3cc828032db51923773332412317edbeba4
 done
 ";
 
@@ -146,11 +101,32 @@ fn writes_the_trace_of_the_run(rt: HostRuntime) -> Result<(), Fail> {
 }
 
 #[test]
-fn writes_the_trace_of_a_loop(rt: HostRuntime) -> Result<(), Fail> {
-    let line = "solo img out --ram=1 --budget=30";
-    let (status, outer) = run(rt.alloc(), &LOOP, line, &[])?;
+fn executes_what_it_stored(rt: HostRuntime) -> Result<(), Fail> {
+    let line = "solo img out --ram=1 --budget=4";
+    let (status, outer) = run(rt.alloc(), &REWRITING, line, &[])?;
     assert_eq!(rt; status, Status::Ended);
-    assert_eq!(rt; outer.written("out"), Some(LOOP_TRACE.as_bytes()));
+    assert_eq!(rt; outer.written("out"), Some(REWRITTEN.as_bytes()));
+    Ok(())
+}
+
+// The pulses come after 64 and 128 ends of 129.
+#[test]
+fn pulses_after_each_64_ends(rt: HostRuntime) -> Result<(), Fail> {
+    let line = "solo img out --ram=1 --budget=129";
+    let (status, outer) = run(rt.alloc(), &[0x6f, 0, 0, 0], line, &[])?;
+    assert_eq!(rt; status, Status::Ended);
+    let text = str::from_utf8(outer.written("out").unwrap_or(b"")).unwrap_or("");
+    for (number, want) in [
+        (129, "128 0 p to k"),
+        (130, "129 0 k pulse 1 0000000000000000 0 0"),
+        (131, "130 0 k to p"),
+        (260, "259 0 p to k"),
+        (261, "260 0 k pulse 1 0000000000000000 0 0"),
+        (262, "261 0 k to p"),
+        (266, "265 0 k retire"),
+    ] {
+        assert_eq!(rt; text.split('\n').nth(number), Some(want));
+    }
     Ok(())
 }
 
@@ -171,10 +147,7 @@ fn answers_by_the_words(rt: HostRuntime) -> Result<(), AllocError> {
             Status::Ended,
         ),
         ("solo img out --ram=1 --budget=64", Status::Ended),
-        (
-            "solo img out --ram=1 --budget=65",
-            Status::Unbuilt(Some(0x8000_0004)),
-        ),
+        ("solo img out --ram=1 --budget=65", Status::Ended),
         ("solo none out --ram=1 --budget=3", Status::ReadFault),
         ("run img out --ram=1 --budget=3", Status::Usage),
         ("solo img out --ram=1 --budget=262145", Status::Usage),
@@ -228,6 +201,19 @@ fn assert_call(
     Ok(())
 }
 
+// The second piece of a longer trace.
+#[test]
+fn keeps_what_was_written_before_a_fault(rt: HostRuntime) -> Result<(), Fail> {
+    let line = "solo img out --ram=1 --budget=2000";
+    let (whole, full) = run(rt.alloc(), &[0x6f, 0, 0, 0], line, &[])?;
+    assert_eq!(rt; whole, Status::Ended);
+    let (status, outer) = run(rt.alloc(), &[0x6f, 0, 0, 0], line, &[3])?;
+    assert_eq!(rt; status, Status::WriteFault);
+    let text = full.written("out").unwrap_or(b"");
+    assert_eq!(rt; outer.written("out"), text.get(..65_536));
+    Ok(())
+}
+
 #[test]
 fn answers_by_the_image(rt: HostRuntime) -> Result<(), AllocError> {
     let alloc = rt.alloc();
@@ -242,6 +228,7 @@ fn answers_by_the_image(rt: HostRuntime) -> Result<(), AllocError> {
         ),
         (whole.as_slice(), Status::Unbuilt(Some(0x8000_0000))),
         (system.as_slice(), Status::Unbuilt(Some(0x8000_0004))),
+        (OUTSIDE.as_slice(), Status::Unbuilt(Some(0x8000_0010))),
         (b"\x7fELF".as_slice(), Status::Unbuilt(None)),
     ] {
         assert_image(&rt, alloc, image, status)?;
@@ -256,7 +243,8 @@ fn assert_image(
     image: &[u8],
     status: Status,
 ) -> Result<(), AllocError> {
-    let (answer, outer) = run(alloc, image, WORDS, &[])?;
+    let line = "solo img out --ram=1 --budget=9";
+    let (answer, outer) = run(alloc, image, line, &[])?;
     assert_eq!(rt; answer, status);
     assert_eq!(rt; outer.written("out"), None);
     Ok(())

@@ -3,7 +3,8 @@ use Rattle.std.specs.Prelude.{◌≡◌, ℕ, Bool, true, false, List}
 use Rattle.flex_base.specs.Setup.{Setup}
 use Rattle.flex_base.specs.State.{State, IsFit}
 use Rattle.flex_base.specs.Decoding.{decoded}
-use Rattle.flex_base.specs.Story.{Want, Asks, Ends, Story, Closes, StaysOver, story, works, goes, ask}
+use Rattle.flex_base.specs.FlatMemory.{reply_with}
+use Rattle.flex_base.specs.Story.{Want, Asks, Ends, Story, Closes, StaysOver, story, works, goes, ask, fetches, after_one}
 use Rattle.flex_base.specs.Built.{is_built_access, is_built_class}
 use Rattle.flex_base.specs.declared.access.Access.{Access}
 use Rattle.flex_base.specs.declared.access.Reply.{Reply}
@@ -23,7 +24,9 @@ pub record IsOf (setup : Setup) (layout : Layout) (most : ℕ) : Type 0 where
 -- where the hart is in the story of an instruction that began in this state
 abbrev pub node : Setup → State → Progress → Story
 node setup a progress.Begun = story setup a
+node setup a progress.Pulsed = fetches setup a
 node setup a (progress.Fetched word) = works setup a (decoded word)
+node setup a (progress.Answered word value) = after_one (works setup a (decoded word)) (reply_with value)
 node setup a progress.Retired = StaysOver
 
 -- the replies lead to where the hart is
@@ -37,8 +40,10 @@ is_retired other = false
 
 -- how many accesses may still come before the end
 abbrev pub left : Progress → ℕ
-left progress.Begun = 1
-left (progress.Fetched word) = 0
+left progress.Begun = 3
+left progress.Pulsed = 2
+left (progress.Fetched word) = 1
+left (progress.Answered word value) = 0
 left progress.Retired = 0
 
 -- the hart and its progress stand for this state and these replies, in a run of this layout and budget

@@ -1,6 +1,7 @@
 ghost use Rattle.std.specs.Prelude.{◌≡◌};
 ghost use Rattle.flex_base.specs.State.{State};
 ghost use Rattle.flex_base.specs.Story.{jumps, branches, is_taken, even};
+ghost use Rattle.flex_base.specs.declared.settings.Layout.{Layout};
 ghost use Rattle.hart_story.specs.StandsFor.{StandsFor};
 ghost use Rattle.hart_story.specs.Telling.{outcome_of, IsSoundOutcome};
 
@@ -13,7 +14,7 @@ use flex_base::{BranchOp, Class};
 // aren't built yet.
 pub(crate) fn jump(hart: &Hart, target: u64, rd: u8) -> Outcome
     ensures works { (a : State) → StandsFor hart.now a → outcome_of a result ≡ jumps a target rd }
-    ensures sound { IsSoundOutcome hart.now result }
+    ensures sound { (layout : Layout) → IsSoundOutcome layout hart.now result }
 {
     if target % 4 != 0 {
         return Outcome::Unbuilt;
@@ -29,7 +30,7 @@ pub(crate) fn jump(hart: &Hart, target: u64, rd: u8) -> Outcome
 // A conditional branch on these two values.
 pub(crate) fn branch(hart: &Hart, op: BranchOp, x: u64, y: u64, target: u64) -> Outcome
     ensures works { (a : State) → StandsFor hart.now a → outcome_of a result ≡ branches a (is_taken op x y) target }
-    ensures sound { IsSoundOutcome hart.now result }
+    ensures sound { (layout : Layout) → IsSoundOutcome layout hart.now result }
 {
     if takes(op, x, y) {
         jump(hart, target, 0)

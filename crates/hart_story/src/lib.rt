@@ -4,6 +4,7 @@
 
 mod hart;
 mod jump;
+mod memory;
 mod progress;
 mod register;
 mod story;

@@ -5,8 +5,12 @@ use flex_base::{Access, Class};
 pub enum Progress {
     /// Nothing has happened yet.
     Begun,
+    /// The pulse that was due has happened.
+    Pulsed,
     /// This word was fetched.
     Fetched(u32),
+    /// This word was fetched, and its access was replied with this value.
+    Answered(u32, u64),
     /// The hart has spent its budget and is over.
     Retired,
 }

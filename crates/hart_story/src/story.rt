@@ -1,17 +1,20 @@
-ghost use Rattle.std.specs.Prelude.{◌≡◌, ◌≢◌, ◌+◌, ◌==◌, if◌then◌else◌, ◌-◌, ◌^◌, ◌<◌, List, [], ◌∷◌, ◌++◌, slice_set};
+ghost use Rattle.std.specs.Prelude.{◌≡◌, ◌≢◌, ◌+◌, ◌==◌, if◌then◌else◌, ◌-◌, ◌^◌, ◌<◌, List, [], ◌∷◌, ◌++◌, ℕ, slice_set, true};
 ghost use Rattle.flex_base.specs.Setup.{Setup};
 ghost use Rattle.flex_base.specs.State.{State, IsFit, set_reg};
-ghost use Rattle.flex_base.specs.Story.{story, works, want, ask, ends, Ends};
+ghost use Rattle.flex_base.specs.Story.{story, fetches, want, ask, ends, Ends, is_tick};
 ghost use Rattle.flex_base.specs.Forms.{HasForm};
 ghost use Rattle.flex_base.specs.declared.access.Access.{Access};
 ghost use Rattle.flex_base.specs.declared.access.Reply.{Reply};
 ghost use Rattle.flex_base.specs.declared.event.EndPart.{EndPart};
-ghost use Rattle.hart_story.specs.Progressing.{IsOf, IsIn, IsAsking, IsEnding, EndsWith, CommitsTo, left, is_retired};
-ghost use Rattle.flex_base.specs.Decoding.{decoded};
+ghost use Rattle.hart_story.specs.Progressing.{IsOf, IsIn, IsAsking, IsEnding, EndsWith, CommitsTo, node, left, is_retired};
+ghost use Rattle.flex_base.specs.Unsplit.{is_retire};
+ghost use Rattle.flex_base.specs.declared.settings.Layout.{Layout};
+ghost use Rattle.hart_story.specs.declared.hart.Hart.{Hart};
 ghost use Rattle.hart_story.specs.StandsFor.{StandsFor};
-ghost use Rattle.hart_story.specs.Telling.{told, AsksPlaced};
+ghost use Rattle.hart_story.specs.Telling.{told, AsksPlaced, outcome_of, IsSoundOutcome};
 
 use crate::hart::Hart;
+use crate::memory::after;
 use crate::progress::{Need, Progress};
 use crate::work::{Outcome, work};
 use flex_base::{Access, Class, EndPart, Layout, Place, Reply};
@@ -26,7 +29,11 @@ pub fn need(hart: &Hart, progress: &Progress, layout: &Layout, budget: u64) -> N
 {
     match *progress {
         Progress::Begun => first_need(hart, layout, budget),
-        Progress::Fetched(word) => last_need(hart, word),
+        Progress::Pulsed => fetch_need(hart, layout),
+        Progress::Fetched(word) => outcome_need(&work(hart, layout, word)),
+        Progress::Answered(word, value) => {
+            outcome_need(&after(hart, &work(hart, layout, word), value))
+        }
         Progress::Retired => Need::Over,
     }
 }
@@ -38,12 +45,22 @@ pub fn give(hart: &Hart, progress: &mut Progress, layout: &Layout, budget: u64, 
     ensures reached { (setup : Setup) (a : State) (replies : List Reply) (access : Access) → IsIn setup a replies hart.now progress.old layout.now budget
         → IsAsking setup a replies access → IsIn setup a (replies ++ reply ∷ []) hart.now progress.new layout.now budget }
     ensures nearer { left progress.new < left progress.old }
-    ensures retired { is_retired progress.new ≡ (hart.now.ends == budget) }
+    ensures retired { (setup : Setup) (a : State) (replies : List Reply) (access : Access) → IsIn setup a replies hart.now progress.old layout.now budget
+        → IsAsking setup a replies access → is_retired progress.new ≡ is_retire access }
 {
-    if hart.ends == budget {
-        *progress = Progress::Retired;
-    } else {
-        *progress = Progress::Fetched(reply.value as u32);
+    match *progress {
+        Progress::Begun => {
+            if hart.ends == budget {
+                *progress = Progress::Retired;
+            } else if is_pulse_due(hart) {
+                *progress = Progress::Pulsed;
+            } else {
+                *progress = Progress::Fetched(reply.value as u32);
+            }
+        }
+        Progress::Pulsed => *progress = Progress::Fetched(reply.value as u32),
+        Progress::Fetched(word) => *progress = Progress::Answered(word, reply.value),
+        Progress::Answered(_, _) | Progress::Retired => unreachable!(),
     }
 }
 
@@ -55,17 +72,28 @@ pub fn finish(hart: &mut Hart, progress: Progress, layout: &Layout, budget: u64)
         → IsEnding setup a replies part after → EndsWith setup (ask setup a replies) result hart.new }
     ensures count { hart.new.ends ≡ hart.old.ends + 1 }
 {
-    match progress {
-        Progress::Fetched(word) => match work(hart, word) {
-            Outcome::End {
-                class,
-                next,
-                rd,
-                value,
-            } => commit(hart, class, next, rd, value),
-            Outcome::Unbuilt => unreachable!(),
-        },
+    let outcome = last_outcome(hart, progress, layout);
+    match outcome {
+        Outcome::End {
+            class,
+            next,
+            rd,
+            value,
+        } => commit(hart, class, next, rd, value),
         _ => unreachable!(),
+    }
+}
+
+// What the instruction comes to at this point. A hart that is at its beginning, or over, has nothing to end.
+fn last_outcome(hart: &Hart, progress: Progress, layout: &Layout) -> Outcome
+    ensures outcome { (setup : Setup) (most : ℕ) (a : State) (part : EndPart) (left : State) → IsOf setup layout.now most → StandsFor hart.now a
+        → want (node setup a progress) ≡ Ends part left → node setup a progress ≡ outcome_of a result }
+    ensures sound { IsSoundOutcome layout.now hart.now result }
+{
+    match progress {
+        Progress::Fetched(word) => work(hart, layout, word),
+        Progress::Answered(word, value) => after(hart, &work(hart, layout, word), value),
+        _ => Outcome::Unbuilt,
     }
 }
 
@@ -76,31 +104,57 @@ fn first_need(hart: &Hart, layout: &Layout, budget: u64) -> Need
     ensures goes_on { result ≢ Need.Over }
 {
     if hart.ends == budget {
-        return Need::Ask(Access::Retire, Class::Pulse);
+        Need::Ask(Access::Retire, Class::Pulse)
+    } else if is_pulse_due(hart) {
+        Need::Ask(Access::Pulse { tick: true }, Class::Pulse)
+    } else {
+        fetch_need(hart, layout)
     }
-    if is_pulse_due(hart) {
-        return Need::Unbuilt;
-    }
+}
+
+// A pulse is due after each 64th end, and ticks there.
+fn is_pulse_due(hart: &Hart) -> bool
+    ensures due { (a : State) → StandsFor hart.now a → result ≡ a.due }
+    ensures tick { (a : State) → StandsFor hart.now a → a.due ≡ true → is_tick a ≡ true }
+{
+    hart.ends % 64 == 0 && hart.ends != 0
+}
+
+// The fetch, which lies in RAM or is an exception.
+fn fetch_need(hart: &Hart, layout: &Layout) -> Need
+    ensures told { (setup : Setup) (most : ℕ) (a : State) → IsOf setup layout.now most → StandsFor hart.now a → result ≡ told (want (fetches setup a)) }
+    ensures placed { (setup : Setup) (most : ℕ) (a : State) → IsOf setup layout.now most → StandsFor hart.now a → IsFit setup.ram setup.budget a → AsksPlaced setup result }
+    ensures goes_on { result ≢ Need.Over }
+{
     match layout.place(hart.pc, 4) {
         Place::Ram => Need::Ask(Access::Fetch { address: hart.pc }, Class::Fetch),
         _ => Need::Unbuilt,
     }
 }
 
-fn is_pulse_due(hart: &Hart) -> bool
-    ensures { (a : State) → StandsFor hart.now a → result ≡ a.due }
-{
-    hart.ends % 64 == 0 && hart.ends != 0
-}
-
-// What a hart does once its word is fetched.
-fn last_need(hart: &Hart, word: u32) -> Need
-    ensures told { (setup : Setup) (a : State) → StandsFor hart.now a → result ≡ told (want (works setup a (decoded word))) }
-    ensures placed { (setup : Setup) → AsksPlaced setup result }
+// What a hart does once its instruction comes to this.
+fn outcome_need(outcome: &Outcome) -> Need
+    ensures told { (layout : Layout) (hart : Hart) (a : State) → IsSoundOutcome layout hart outcome.now → result ≡ told (want (outcome_of a outcome.now)) }
+    ensures placed { (setup : Setup) (most : ℕ) (layout : Layout) (hart : Hart) → IsOf setup layout most → IsSoundOutcome layout hart outcome.now → AsksPlaced setup result }
     ensures goes_on { result ≢ Need.Over }
 {
-    match work(hart, word) {
+    match *outcome {
         Outcome::End { class, .. } => Need::Finish(class),
+        Outcome::Load { address, width, .. } => {
+            Need::Ask(Access::Read { address, width }, Class::Load)
+        }
+        Outcome::Store {
+            address,
+            width,
+            value,
+        } => Need::Ask(
+            Access::Write {
+                address,
+                width,
+                value,
+            },
+            Class::Store,
+        ),
         Outcome::Unbuilt => Need::Unbuilt,
     }
 }

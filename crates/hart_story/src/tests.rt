@@ -149,7 +149,10 @@ fn makes_instructions(rt: HostRuntime) {
 #[test]
 fn needs_what_its_place_in_the_run_says(rt: HostRuntime) {
     needs_at_the_beginning(&rt);
+    needs_after_the_pulse(&rt);
     needs_after_the_fetch(&rt);
+    needs_of_loads_and_stores(&rt);
+    needs_after_the_access(&rt);
     for ends in [1, 64, 100] {
         let hart = hart_at(0x8000_0000, ends);
         let progress = retire(&rt, &hart, ends);
@@ -164,13 +167,15 @@ fn needs_what_its_place_in_the_run_says(rt: HostRuntime) {
 // By the pc, the ends and the budget.
 fn needs_at_the_beginning(rt: &impl Abort) {
     let retirement = Need::Ask(Access::Retire, Class::Pulse);
+    let tick = Need::Ask(Access::Pulse { tick: true }, Class::Pulse);
     let table = [
         (0x8000_0000, 0, fetch(0x8000_0000)),
         (0x800f_fffc, 1, fetch(0x800f_fffc)),
         (0x8010_0000, 1, Need::Unbuilt),
         (0x7fff_fffc, 1, Need::Unbuilt),
         (0x8000_0000, 63, fetch(0x8000_0000)),
-        (0x8000_0000, 64, Need::Unbuilt),
+        (0x8000_0000, 64, tick),
+        (0x8010_0000, 64, tick),
         (0x8000_0000, 65, fetch(0x8000_0000)),
         (0x8000_0000, 99, fetch(0x8000_0000)),
         (0x8000_0000, 100, retirement),
@@ -185,6 +190,18 @@ fn needs_at_the_beginning(rt: &impl Abort) {
 
 fn fetch(address: u64) -> Need {
     Need::Ask(Access::Fetch { address }, Class::Fetch)
+}
+
+// A pulse comes before the fetch, at the same ends.
+fn needs_after_the_pulse(rt: &impl Abort) {
+    for (pc, want) in [
+        (0x8000_0000, fetch(0x8000_0000)),
+        (0x8010_0000, Need::Unbuilt),
+    ] {
+        let hart = hart_at(pc, 64);
+        let told = need(&hart, &Progress::Pulsed, &layout(), BUDGET);
+        assert_eq!(rt; told, want, "at {pc:x}");
+    }
 }
 
 fn needs_after_the_fetch(rt: &impl Abort) {
@@ -208,8 +225,7 @@ fn needs_after_the_fetch(rt: &impl Abort) {
         // lui x5, 1 and sub x5, x6, x7
         (0x000012b7, Need::Finish(Class::Alu)),
         (0x407302b3, Need::Finish(Class::Alu)),
-        // lw x5, 0(x6), mul x5, x6, x7, ecall and no instruction
-        (0x00032283, Need::Unbuilt),
+        // mul x5, x6, x7, ecall and no instruction
         (0x027302b3, Need::Unbuilt),
         (0x00000073, Need::Unbuilt),
         (0x00000000, Need::Unbuilt),
@@ -217,6 +233,80 @@ fn needs_after_the_fetch(rt: &impl Abort) {
     for (word, want) in table {
         let hart = hart_at(0x8000_0000, 0);
         let told = need(&hart, &Progress::Fetched(word), &layout(), BUDGET);
+        assert_eq!(rt; told, want, "{word:x}");
+    }
+}
+
+// `x6` is the start of RAM, `x7` its end, and `x5` what a store writes.
+fn hart_of_accesses() -> Hart {
+    let mut hart = hart_at(0x8000_0000, 0);
+    hart.x[5] = 0x0123_4567_89ab_cdef;
+    hart.x[6] = 0x8000_0000;
+    hart.x[7] = 0x8010_0000;
+    hart
+}
+
+fn read(address: u64, width: u8) -> Need {
+    Need::Ask(Access::Read { address, width }, Class::Load)
+}
+
+fn write(address: u64, width: u8, value: u64) -> Need {
+    Need::Ask(
+        Access::Write {
+            address,
+            width,
+            value,
+        },
+        Class::Store,
+    )
+}
+
+fn needs_of_loads_and_stores(rt: &impl Abort) {
+    let table = [
+        // lb, lh, lw, ld, lbu, lhu and lwu x5, 0(x6)
+        (0x00030283, read(0x8000_0000, 1)),
+        (0x00031283, read(0x8000_0000, 2)),
+        (0x00032283, read(0x8000_0000, 4)),
+        (0x00033283, read(0x8000_0000, 8)),
+        (0x00034283, read(0x8000_0000, 1)),
+        (0x00035283, read(0x8000_0000, 2)),
+        (0x00036283, read(0x8000_0000, 4)),
+        // sb, sh, sw and sd x5, 0(x6)
+        (0x00530023, write(0x8000_0000, 1, 0xef)),
+        (0x00531023, write(0x8000_0000, 2, 0xcdef)),
+        (0x00532023, write(0x8000_0000, 4, 0x89ab_cdef)),
+        (0x00533023, write(0x8000_0000, 8, 0x0123_4567_89ab_cdef)),
+        // lb x5, -1(x7), ld x5, -8(x7) and sd x5, -8(x7)
+        (0xfff38283, read(0x800f_ffff, 1)),
+        (0xff83b283, read(0x800f_fff8, 8)),
+        (0xfe53bc23, write(0x800f_fff8, 8, 0x0123_4567_89ab_cdef)),
+        // ld x5, 0(x7), and lb x5, -1(x6)
+        (0x0003b283, Need::Unbuilt),
+        (0xfff30283, Need::Unbuilt),
+        // lh x5, 1(x6), lw x5, 2(x6), ld x5, 4(x6), and sw x5, 0(x0)
+        (0x00131283, Need::Unbuilt),
+        (0x00232283, Need::Unbuilt),
+        (0x00433283, Need::Unbuilt),
+        (0x00502023, Need::Unbuilt),
+    ];
+    for (word, want) in table {
+        let told = need(
+            &hart_of_accesses(),
+            &Progress::Fetched(word),
+            &layout(),
+            BUDGET,
+        );
+        assert_eq!(rt; told, want, "{word:x}");
+    }
+}
+
+fn needs_after_the_access(rt: &impl Abort) {
+    for (word, want) in [
+        (0x00030283, Need::Finish(Class::Load)),
+        (0x00533023, Need::Finish(Class::Store)),
+    ] {
+        let progress = Progress::Answered(word, 0);
+        let told = need(&hart_of_accesses(), &progress, &layout(), BUDGET);
         assert_eq!(rt; told, want, "{word:x}");
     }
 }

@@ -1,11 +1,12 @@
--- The end is what the work of the fetched word comes to.
-use Rattle.std.proofs.Common.{◌≡◌, ◌+◌, ap, sym, ◌∙◌, arith}
+-- The end is what the instruction comes to.
+use Rattle.std.proofs.Common.{◌+◌, ap, sym, ◌∙◌, arith}
 use Rattle.flex_base.specs.Word.{is_multiple}
 use Rattle.flex_base.specs.State.{State, set_reg}
-use Rattle.flex_base.specs.Story.{Want, Ends, IsLater, want, ask}
+use Rattle.flex_base.specs.Story.{Ends, want}
 use Rattle.flex_base.specs.declared.event.EndPart.{EndPart}
 use Rattle.flex_base.proofs.Stories.{ends_unspent}
-use Rattle.hart_story.specs.Progressing.{node}
+use Rattle.hart_story.specs.Telling.{outcome_of}
+use Rattle.hart_story.proofs.Asking.{node_asks, outcome_ends}
 use Rattle.hart_story.proofs.story.finish.Goals as goal
 
 pub commit-requires : goal.commit-requires
@@ -14,18 +15,19 @@ commit-requires c =
     let unspent = ends_unspent c.requires.0 c.requires.1 c.requires.2 c.requires.3 c.requires.4 c.requires.6.ends in
     omega (arith, at.fit.within, at.of.budget, at.stands.ends, unspent, c.ranges.budget)
 
-later_never_ends : (w : Want) (part : EndPart) (after : State) → w ≡ IsLater → w ≡ Ends part after → ⊥
-later_never_ends w part after later ends = cc
-
 pub unreachable-requires : goal.unreachable-requires
 unreachable-requires c =
     let at = c.requires.5 in
-    let later : ask c.requires.0 c.requires.1 c.requires.2 ≡ IsLater = ap want (at.reached ∙ ap (node c.requires.0 c.requires.1) c.in-Fetched.is ∙ c.in-Unbuilt.ensures.works c.requires.0 c.requires.1 at.stands) in
-    later_never_ends _ c.requires.3 c.requires.4 later c.requires.6.ends
+    let ends = node_asks c.requires.0 c.requires.1 c.args.progress c.requires.2 (Ends c.requires.3 c.requires.4) at.reached c.requires.6.ends in
+    let here = c.last_outcome-outcome.ensures.outcome c.requires.0 c.args.budget c.requires.1 c.requires.3 c.requires.4 at.of at.stands ends in
+    let is_end = outcome_ends c.requires.1 c.last_outcome-outcome.result c.requires.3 c.requires.4 (sym (ap want here) ∙ ends) in
+    c.in_default.not-End is_end.0 is_end.1 is_end.2 is_end.3 is_end.4
 
 pub returns-clause-ends : goal.returns-clause-ends
 returns-clause-ends c = λ setup a replies part after at ending.
-    let is_end = ap want (at.reached ∙ ap (node setup a) c.in-Fetched.is ∙ c.in-End.ensures.works setup a at.stands) in
+    let ends = node_asks setup a c.args.progress replies (Ends part after) at.reached ending.ends in
+    let here = c.last_outcome-outcome.ensures.outcome setup c.args.budget a part after at.of at.stands ends in
+    let is_end = ap want (at.reached ∙ here ∙ ap (outcome_of a) c.in-End.is) in
     let committed = c.commit.ensures.commits a at.stands in
     let unspent = ends_unspent setup a replies part after ending.ends in
     let left : State = record a { pc = c.in-End.next; x = set_reg a.x c.in-End.rd c.in-End.value; ends = a.ends + 1; due = is_multiple (a.ends + 1) 64 } in

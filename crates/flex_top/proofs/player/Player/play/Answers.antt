@@ -18,17 +18,17 @@ pub returns-in-Over : goal.returns-in-Over
 returns-in-Over c = λ setup at.
     let playing = c.rounds.invariant.playing setup at in
     let below : c.rounds.counter < most_rounds setup = below_most setup c.args.self.now.budget c.rounds.counter at.alone at.hart.of.budget c.rounds-test.true in
-    let After : Turn → Type 0 = λ t. AfterTurn setup (reach setup playing.names) t c.turn.new.self c.args.memory.now in
+    let After : Turn → Type 0 = λ t. AfterTurn setup (reach setup playing.names) t c.turn.new.self c.turn.new.memory in
     let turned = subst After c.in-Over.is (c.in_ok-turn.ensures.after setup (reach setup playing.names) playing.at) in
-    played_all setup c.rounds.self c.turn.new.self c.args.memory.now c.rounds.counter playing c.rounds.invariant.begun below turned.0 turned.1
+    played_all setup c.rounds.self c.turn.new.self c.rounds.memory c.turn.new.memory c.rounds.counter playing c.rounds.invariant.begun below turned.0 turned.1
 
 pub returns-in-Unbuilt : goal.returns-in-Unbuilt
 returns-in-Unbuilt c = λ setup at.
     let playing = c.rounds.invariant.playing setup at in
     let below : c.rounds.counter < most_rounds setup = below_most setup c.args.self.now.budget c.rounds.counter at.alone at.hart.of.budget c.rounds-test.true in
-    let After : Turn → Type 0 = λ t. AfterTurn setup (reach setup playing.names) t c.turn.new.self c.args.memory.now in
+    let After : Turn → Type 0 = λ t. AfterTurn setup (reach setup playing.names) t c.turn.new.self c.turn.new.memory in
     let stuck = subst After c.in-Unbuilt.is (c.in_ok-turn.ensures.after setup (reach setup playing.names) playing.at) in
-    played_stuck setup c.rounds.self c.args.memory.now c.rounds.counter c.in-Unbuilt.pc playing c.rounds.invariant.begun below stuck
+    played_stuck setup c.rounds.self c.rounds.memory c.rounds.counter c.in-Unbuilt.pc playing c.rounds.invariant.begun below stuck
 
 pub rounds-preserved : goal.rounds-preserved
 rounds-preserved c =
@@ -40,7 +40,7 @@ rounds-preserved c =
       playing = λ setup at.
           let playing = c.rounds.invariant.playing setup at in
           let below : c.rounds.counter < most_rounds setup = below_most setup c.args.self.now.budget c.rounds.counter at.alone at.hart.of.budget c.rounds-test.true in
-          let After : Turn → Type 0 = λ t. AfterTurn setup (reach setup playing.names) t c.turn.new.self c.args.memory.now in
+          let After : Turn → Type 0 = λ t. AfterTurn setup (reach setup playing.names) t c.turn.new.self c.turn.new.memory in
           let turned = subst After c.in-Ended.is (c.in_ok-turn.ensures.after setup (reach setup playing.names) playing.at) in
-          playing_more setup c.rounds.self c.turn.new.self c.args.memory.now c.rounds.counter playing c.rounds.invariant.begun below turned;
+          playing_more setup c.rounds.self c.turn.new.self c.rounds.memory c.turn.new.memory c.rounds.counter playing c.rounds.invariant.begun below turned;
     }

@@ -11,5 +11,5 @@ abbrev pub invariant-rounds : goal.invariant-rounds
 invariant-rounds l = record {
   begun : l.self.progress ≡ progress.Begun;
   ends : l.self.hart.ends ≡ l.counter;
-  playing : (setup : Setup) → IsAt setup (begin setup) l.fn.self l.memory → Playing setup l.self l.memory l.counter;
+  playing : (setup : Setup) → IsAt setup (begin setup) l.fn.self l.fn.memory → Playing setup l.self l.memory l.counter;
 }

@@ -11,12 +11,13 @@ use Rattle.flex_base.proofs.Turns.{turn_of-asks, turn_of-ends, turn_of-over, tur
 use Rattle.hart_story.specs.Progressing.{IsIn, IsAsking, node, is_retired}
 use Rattle.hart_story.proofs.Asking.{ends_unretired}
 use Rattle.hart_story.proofs.Told.{told_asks, told_ends, told_unbuilt}
+use Rattle.flex_top.specs.Memory.{IsReplay, replayed}
 use Rattle.flex_top.specs.Splitting.{parted_by}
 use Rattle.flex_top.proofs.Playing.{at_access, at_end, built_here, unbuilt_here, unbuilt_busy}
 use Rattle.flex_top.proofs.player.Player.step.Goals as goal
 
-pub reply-told-requires-clause-built : goal.reply-told-requires-clause-built
-reply-told-requires-clause-built c =
+pub act-told-requires-clause-built : goal.act-told-requires-clause-built
+act-told-requires-clause-built c =
     let u = c.requires.at.1 in
     let told = c.in-Ask.ensures.told c.requires.at.0 (half_at u 0).state (half_at u 0).replies c.requires.at.2.hart in
     (told_asks c.in-Ask.access c.in-Ask.field-1 (want_of c.requires.at.0 u 0) told).built
@@ -28,7 +29,7 @@ give-requires c =
     let at = c.requires.at.2 in
     let told = c.in-Ask.ensures.told setup (half_at u 0).state (half_at u 0).replies at.hart in
     let asked = told_asks c.in-Ask.access c.in-Ask.field-1 (want_of setup u 0) told in
-    (setup, (half_at u 0).state, (half_at u 0).replies, c.in-Ask.access, at.hart, record { asks = asked.asks; built = asked.built }, c.reply-told.ensures.form)
+    (setup, (half_at u 0).state, (half_at u 0).replies, c.in-Ask.access, at.hart, record { asks = asked.asks; built = asked.built }, c.act-told.ensures.form)
 
 pub finish-part-requires : goal.finish-part-requires
 finish-part-requires c =
@@ -47,12 +48,15 @@ returns-in_ok-add-in-Ask-clause-after c = λ setup u at.
     let asked = told_asks c.in-Ask.access c.in-Ask.field-1 (want_of setup u 0) told in
     let asking : IsAsking setup (half_at u 0).state (half_at u 0).replies c.in-Ask.access = record { asks = asked.asks; built = asked.built } in
     let placed = c.in-Ask.ensures.placed setup (half_at u 0).state (half_at u 0).replies at.hart in
-    let reply : c.reply-told.result ≡ reply_to setup u 0 c.in-Ask.access = c.reply-told.ensures.flat setup u 0 placed at.replay in
+    let reply : c.act-told.result ≡ reply_to setup u 0 c.in-Ask.access = c.act-told.ensures.flat setup u 0 placed at.replay in
     let After : Reply → Type 0 = λ r. IsIn setup (half_at u 0).state ((half_at u 0).replies ++ r ∷ []) c.args.self.now.hart c.give.new.progress c.args.self.now.layout c.args.self.now.budget in
     let hart = subst After reply (c.give.ensures.reached setup (half_at u 0).state (half_at u 0).replies c.in-Ask.access at.hart asking) in
+    let Replay : Reply → Type 0 = λ r. IsReplay setup c.act-told.new.memory (replayed u.ram 0 c.in-Ask.access r) in
+    let replay = subst Replay reply (c.act-told.ensures.replay setup u 0 placed at.replay) in
+    let retired = c.give.ensures.retired setup (half_at u 0).state (half_at u 0).replies c.in-Ask.access at.hart asking in
     let run = c.in_ok-add-in-Ask.ensures ∙ ap (λ r. part default_plan (parted_by c.args.self.now.run) (does 0 (what.Acc c.in-Ask.access r))) reply in
     record {
-      at = at_access setup u c.args.self.now _ c.args.memory.now c.in-Ask.access at asked.asks asked.built hart c.give.ensures.retired run;
+      at = at_access setup u c.args.self.now _ c.args.memory.now c.act-told.new.memory c.in-Ask.access at asked.asks asked.built hart retired replay run;
       built = built_here setup u 0 (ap is_built asked.asks ∙ asked.built);
       names = turn_of-asks setup u 0 c.in-Ask.access below within asked.asks;
     }
