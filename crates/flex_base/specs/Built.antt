@@ -13,6 +13,9 @@ abbrev pub is_built_access : Access → Bool
 is_built_access (acc.Fetch address) = true
 is_built_access (acc.Read address width) = true
 is_built_access (acc.Write address width value) = true
+is_built_access (acc.Lr address width) = true
+is_built_access (acc.Sc address width value) = true
+is_built_access (acc.Amo does address width value) = true
 is_built_access (acc.Pulse tick) = true
 is_built_access acc.Retire = true
 is_built_access other = false
@@ -20,9 +23,11 @@ is_built_access other = false
 -- the classes whose ends are built
 abbrev pub is_built_class : Class → Bool
 is_built_class class.Alu = true
+is_built_class class.Muldiv = true
 is_built_class class.Jump = true
 is_built_class class.Load = true
 is_built_class class.Store = true
+is_built_class class.Atomic = true
 is_built_class class.Fence = true
 is_built_class other = false
 

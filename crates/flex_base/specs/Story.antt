@@ -1,9 +1,10 @@
 -- The story of one instruction: what a hart does, from the state at the start and the replies so far.
-use Rattle.std.specs.Prelude.{ℕ, ◌+◌, ◌-◌, ◌*◌, ◌%◌, Bool, not, ◌&&◌, ◌==◌, nat_lt, if◌then◌else◌, List, [], ◌∷◌}
+use Rattle.std.specs.Prelude.{ℕ, ◌+◌, ◌-◌, ◌*◌, ◌%◌, Bool, true, not, ◌&&◌, ◌==◌, nat_lt, if◌then◌else◌, List, [], ◌∷◌, None, Some}
 use Rattle.flex_base.specs.Word.{wrap, low, sign_extend, is_multiple}
 use Rattle.flex_base.specs.Place.{in_ram, place_of}
 use Rattle.flex_base.specs.Decoding.{decoded}
-use Rattle.flex_base.specs.Arithmetic.{alu_of, signed_lt}
+use Rattle.flex_base.specs.Arithmetic.{alu_of, muldiv_of, signed_lt}
+use Rattle.flex_base.specs.FlatMemory.{granule, is_reserved}
 use Rattle.std.specs.Int.{w64}
 use Rattle.flex_base.specs.State.{State, reg, set_reg}
 use Rattle.flex_base.specs.Setup.{Setup}
@@ -13,6 +14,7 @@ use Rattle.flex_base.specs.declared.access.Reply.{Reply}
 use Rattle.flex_base.specs.declared.class.Class.{Class}
 use Rattle.flex_base.specs.declared.class.Class.TheVariants as class
 use Rattle.flex_base.specs.declared.event.EndPart.{EndPart}
+use Rattle.flex_base.specs.declared.operation.AmoOp.{AmoOp}
 use Rattle.flex_base.specs.declared.operation.Op.{Op}
 use Rattle.flex_base.specs.declared.settings.Place.{Place}
 use Rattle.flex_base.specs.declared.settings.Place.TheVariants as place
@@ -48,13 +50,13 @@ traps a cause tval = ComesLater
 abbrev pub jumps : State → ℕ → ℕ → Story
 jumps a target rd = if is_multiple target 4 then ends a class.Jump target rd (wrap (a.pc + 4)) else traps a 0 target
 
+-- an end that goes on at the next instruction with a value for a register
+abbrev pub computes : State → Class → ℕ → ℕ → Story
+computes a class rd value = ends a class (wrap (a.pc + 4)) rd value
+
 -- an end that goes on at the next instruction and writes no register
 abbrev pub passes : State → Class → Story
-passes a class = ends a class (wrap (a.pc + 4)) 0 0
-
--- an end that goes on at the next instruction with a computed value (Volume I, "Integer Computational Instructions")
-abbrev pub computes : State → ℕ → ℕ → Story
-computes a rd value = ends a class.Alu (wrap (a.pc + 4)) rd value
+passes a class = computes a class 0 0
 
 -- an address without its lowest bit
 abbrev pub even : ℕ → ℕ
@@ -92,24 +94,54 @@ reaches setup a address width misaligned fault access =
 -- a load
 abbrev pub loads : Setup → State → ℕ → Bool → ℕ → ℕ → Story
 loads setup a width signed rd address = reaches setup a address width 4 5
-    (Says (acc.Read address width) (λ reply. ends a class.Load (wrap (a.pc + 4)) rd (extended signed width reply.value)))
+    (Says (acc.Read address width) (λ reply. computes a class.Load rd (extended signed width reply.value)))
 
 -- a store; the value is cut to its width
 abbrev pub stores : Setup → State → ℕ → ℕ → ℕ → Story
 stores setup a width address value = reaches setup a address width 6 7
     (Says (acc.Write address width (low (8 * width) value)) (λ reply. passes a class.Store))
 
+-- an atomic instruction tests its alignment and then its place, which is RAM alone (Volume I, "A")
+abbrev pub reaches_ram : Setup → State → ℕ → ℕ → ℕ → ℕ → Story → Story
+reaches_ram setup a address width misaligned fault access =
+    if is_multiple address width then (if in_ram setup.ram address width then access else traps a fault address) else traps a misaligned address
+
+-- a load-reserved reserves the aligned 8 bytes (Volume I, "Load-Reserved/Store-Conditional Instructions")
+abbrev pub loads_reserved : Setup → State → ℕ → ℕ → ℕ → Story
+loads_reserved setup a width rd address = reaches_ram setup a address width 4 5
+    (Says (acc.Lr address width) (λ reply. computes (record a { reservation = Some (granule address) }) class.Atomic rd (extended true width reply.value)))
+
+-- the end of a store-conditional, and of the hart's reservation with it
+abbrev pub concludes : State → ℕ → ℕ → Story
+concludes a rd result = computes (record a { reservation = None }) class.Atomic rd result
+
+-- a store-conditional makes its access within the hart's reservation alone; elsewhere it fails at once, with 1
+abbrev pub stores_conditional : Setup → State → ℕ → ℕ → ℕ → ℕ → Story
+stores_conditional setup a width rd address value = reaches_ram setup a address width 6 7
+    (if is_reserved a.reservation (granule address)
+        then Says (acc.Sc address width (low (8 * width) value)) (λ reply. concludes a rd reply.value)
+        else concludes a rd 1)
+
+-- an atomic memory operation; the register gets what stood in memory (Volume I, "Atomic Memory Operations")
+abbrev pub modifies : Setup → State → AmoOp → ℕ → ℕ → ℕ → ℕ → Story
+modifies setup a does width rd address value = reaches_ram setup a address width 6 7
+    (Says (acc.Amo does address width (low (8 * width) value)) (λ reply. computes a class.Atomic rd (extended true width reply.value)))
+
 -- the work of a decoded instruction
 abbrev pub works : Setup → State → Op → Story
-works setup a (op.Lui rd imm) = computes a rd imm
-works setup a (op.Auipc rd imm) = computes a rd (wrap (a.pc + imm))
-works setup a (op.AluImm does rd rs1 imm) = computes a rd (alu_of does (reg a rs1) imm)
-works setup a (op.AluReg does rd rs1 rs2) = computes a rd (alu_of does (reg a rs1) (reg a rs2))
+works setup a (op.Lui rd imm) = computes a class.Alu rd imm
+works setup a (op.Auipc rd imm) = computes a class.Alu rd (wrap (a.pc + imm))
+works setup a (op.AluImm does rd rs1 imm) = computes a class.Alu rd (alu_of does (reg a rs1) imm)
+works setup a (op.AluReg does rd rs1 rs2) = computes a class.Alu rd (alu_of does (reg a rs1) (reg a rs2))
+works setup a (op.Muldiv does rd rs1 rs2) = computes a class.Muldiv rd (muldiv_of does (reg a rs1) (reg a rs2))
 works setup a (op.Jal rd imm) = jumps a (wrap (a.pc + imm)) rd
 works setup a (op.Jalr rd rs1 imm) = jumps a (even (wrap (reg a rs1 + imm))) rd
 works setup a (op.Branch compares rs1 rs2 imm) = branches a (is_taken compares (reg a rs1) (reg a rs2)) (wrap (a.pc + imm))
 works setup a (op.Load width signed rd rs1 imm) = loads setup a width signed rd (wrap (reg a rs1 + imm))
 works setup a (op.Store width rs1 rs2 imm) = stores setup a width (wrap (reg a rs1 + imm)) (reg a rs2)
+works setup a (op.Lr width rd rs1 aq rl) = loads_reserved setup a width rd (reg a rs1)
+works setup a (op.Sc width rd rs1 rs2 aq rl) = stores_conditional setup a width rd (reg a rs1) (reg a rs2)
+works setup a (op.Amo does width rd rs1 rs2 aq rl) = modifies setup a does width rd (reg a rs1) (reg a rs2)
 works setup a (op.Fence free) = passes a class.Fence
 works setup a (op.FenceI free) = passes a class.Fence
 works setup a (op.Illegal word) = traps a 2 word
