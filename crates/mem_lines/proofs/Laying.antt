@@ -1,8 +1,7 @@
 -- Bytes of the image that are written into a bank, one after another.
-use Rattle.std.proofs.Common.{◌≡◌, ℕ, ◌+◌, ◌-◌, ◌<◌, ◌≤◌, Bool, true, false, if◌then◌else◌, List, length, get_or, set, refl, ap, sym, ◌∙◌, arith, inl, inr, get_or-set_same, get_or-set_other, ◌||◌, ◌&&◌, map, replicate, Option, None, Vec, Global}
+use Rattle.std.proofs.Common.{◌≡◌, ℕ, ◌+◌, ◌-◌, ◌<◌, ◌≤◌, Bool, true, false, if◌then◌else◌, List, length, get_or, set, refl, ap, sym, ◌∙◌, arith, inl, inr, get_or-set_same, get_or-set_other, ◌||◌, ◌&&◌, map, Vec, Global}
 use Rattle.std.proofs.lemmas.Bool.{cases_eq}
 use Rattle.std.proofs.lemmas.Bool.Decides.{eqb_tells, nat_tests}
-use Rattle.std.proofs.lemmas.List.{get_or-replicate}
 use Rattle.std.proofs.lemmas.List.Folds.{fold-map, list_all-map}
 use Rattle.std.specs.List.{fold, list_all}
 use Rattle.flex_base.specs.Word.{is_multiple}
@@ -65,6 +64,3 @@ last_true false b d e = absurd cc
 
 pub parts_fit : (ram entry : ℕ) (parts : List (ℕ × Vec ℕ Global)) → image_fits ram (record { entry = entry; parts = map (λ part. (part.0, part.1.items)) parts }) ≡ true → list_all (λ part. part_fits ram (part.0, part.1.items)) parts ≡ true
 parts_fit ram entry parts fits = sym (list_all-map (part_fits ram) (λ (part : ℕ × Vec ℕ Global). (part.0, part.1.items)) parts) ∙ last_true (is_multiple entry 4) (in_ram ram entry 1) (list_all (part_fits ram) (map (λ part. (part.0, part.1.items)) parts)) fits
-
-pub no_place : (hart : ℕ) → hart < 32 → get_or (replicate {A = Option ℕ} 32 None) hart None ≡ None
-no_place hart below = get_or-replicate 32 hart None None below

@@ -1,12 +1,12 @@
 -- The bytes of one bank alone are those of RAM.
-use Rattle.std.proofs.Common.{◌≡◌, ℕ, ◌+◌, ◌-◌, ◌/◌, ◌<◌, ◌≤◌, true, List, length, slice_index, map, ap, sym, subst, ◌∙◌, arith}
+use Rattle.std.proofs.Common.{◌≡◌, ℕ, ◌+◌, ◌/◌, ◌<◌, List, length, slice_index, map, ap, sym, ◌∙◌, arith}
 use Rattle.std.specs.List.{range_with_len}
 use Rattle.std.proofs.lemmas.List.FromFn.{fill_by_all}
 use Rattle.std.proofs.lemmas.Bool.Decides.{nat_tests}
-use Rattle.flex_base.specs.Place.{ram_base, in_ram}
+use Rattle.flex_base.specs.Place.{ram_base}
 use Rattle.flex_base.specs.Setup.{Setup}
 use Rattle.flex_base.specs.FlatMemory.{Done, byte}
-use Rattle.mem_lines.specs.Bank.{Bank, IsIn, IsKept, IsReplay, bank_of, held, spot}
+use Rattle.mem_lines.specs.Bank.{Bank, IsIn, IsKept, IsReplay, bank_of, spot}
 
 -- one bank holds the bytes of RAM in their order
 spot_alone : (i : ℕ) → spot 1 (ram_base + i) ≡ i

@@ -1,5 +1,5 @@
 -- One bank of memory, as contracts see it, and what it stands for.
-use Rattle.std.specs.Prelude.{◌≡◌, ℕ, ◌+◌, ◌-◌, ◌*◌, ◌/◌, ◌%◌, ◌<◌, ◌≤◌, Bool, true, if◌then◌else◌, List, length, slice_index, slice_index_or, Option, None}
+use Rattle.std.specs.Prelude.{◌≡◌, ℕ, ◌+◌, ◌-◌, ◌*◌, ◌/◌, ◌%◌, ◌<◌, ◌≤◌, Bool, true, if◌then◌else◌, List, length, slice_index, slice_index_or, Option, None, Some}
 use Rattle.flex_base.specs.Limits.{mebibyte}
 use Rattle.flex_base.specs.Word.{is_multiple}
 use Rattle.flex_base.specs.Place.{ram_base, in_ram}
@@ -36,6 +36,11 @@ held b address = slice_index b.bytes (spot b.banks address)
 -- the aligned 8 bytes that a hart has reserved
 abbrev pub reserved : Bank → ℕ → Option ℕ
 reserved b hart = slice_index_or b.places hart None
+
+-- 1 where there is one
+abbrev pub one_where_some : Option ℕ → ℕ
+one_where_some None = 0
+one_where_some (Some g) = 1
 
 -- the address is in RAM and in this bank
 pub record IsIn (b : Bank) (address : ℕ) : Type 0 where

@@ -268,6 +268,34 @@ fn atomic_kinds_act_on_the_bytes_of_their_width(rt: HostRuntime) -> Result<(), F
     Ok(())
 }
 
+#[test]
+fn bytes_are_those_of_the_lines_in_order(rt: HostRuntime) -> Result<(), Fail> {
+    // Of so many banks this one, how many bytes it has, and what stands at an index.
+    for (banks, number, length, index, byte) in [
+        (1, 0, 0x10_0000, 0x37, 0xee),
+        (1, 0, 0x10_0000, 0x38, 1),
+        (1, 0, 0x10_0000, 0x47, 8),
+        (1, 0, 0x10_0000, 0x48, 0),
+        (1, 0, 0x10_0000, 0xf_ffff, 8),
+        (4, 0, 0x4_0000, 0x3f, 8),
+        (4, 0, 0x4_0000, 0x40, 0),
+        (4, 1, 0x4_0000, 0, 1),
+        (4, 1, 0x4_0000, 8, 0),
+        (4, 3, 0x4_0000, 0x3_fff8, 1),
+        (4, 3, 0x4_0000, 0x3_ffff, 8),
+    ] {
+        let lines = bank(&rt, rt.alloc(), banks, number)?;
+        let bytes = lines.bytes();
+        assert_eq!(rt; bytes.len(), length);
+        assert_eq!(rt;
+            bytes.get(index).copied(),
+            Some(byte),
+            "{index:x} of bank {number} of {banks}"
+        );
+    }
+    Ok(())
+}
+
 // Makes the same accesses in both, which tell the same.
 fn assert_same(rt: &impl Abort, whole: &mut Lines, part: &mut Lines, address: u64)
     requires { address < 2 ^ 63 }
