@@ -44,11 +44,11 @@ laid_more bytes after part banks address i n a old count above_part above bank l
           rw (inside, whole) (ap (λ k. get_or (between i (i + n) part) k 0) (omega (arith, place)) ∙ get_or-between part i (i + n) j 0 (omega (arith, low)) ∙ ap (λ k. get_or part k 0) (omega (arith, here.1)))
       | inr away ↦
           let none : covers at (length (between i (i + n) part)) (spot banks a) ≡ false = covers_no at (length (between i (i + n) part)) (spot banks a) (λ both.
-            let j = spot banks a - at in
-            let low : j < n = omega (arith, both.0, both.1, size) in
-            let spots : spot banks (address + i + j) ≡ spot banks a = next j low ∙ omega (arith, both.0) in
-            let one = spot_apart banks (address + i + j) a count (omega arith) above (same_bank j low) spots in
-            away.1 (omega (arith, one), omega (arith, one, low))) in
+          let j = spot banks a - at in
+          let low : j < n = omega (arith, both.0, both.1, size) in
+          let spots : spot banks (address + i + j) ≡ spot banks a = next j low ∙ omega (arith, both.0) in
+          let one = spot_apart banks (address + i + j) a count (omega arith) above (same_bank j low) spots in
+          away.1 (omega (arith, one), omega (arith, one, low))) in
           rw none (before ∙ laid_other address i n a (get_or part (a - address) 0) old away.1)
     ]
 
@@ -58,9 +58,9 @@ pub laid_none : (bytes part : List ℕ) (banks address i n a old : ℕ) → (add
     → get_or bytes (spot banks a) 0 ≡ (if covers address (i + n) a then get_or part (a - address) 0 else old)
 laid_none bytes part banks address i n a old line other before =
     before ∙ laid_other address i n a (get_or part (a - address) 0) old (λ here.
-      let j = a - (address + i) in
-      let place : a ≡ address + i + j = omega (arith, here) in
-      other (ap (bank_of banks) place ∙ bank_next banks (address + i) j (omega (arith, here))))
+    let j = a - (address + i) in
+    let place : a ≡ address + i + j = omega (arith, here) in
+    other (ap (bank_of banks) place ∙ bank_next banks (address + i) j (omega (arith, here))))
 
 -- The image.
 

@@ -24,6 +24,6 @@ pub bytes_are_ram : (setup : Setup) (made : List Done) (b : Bank) → IsKept b.r
 bytes_are_ram setup made b kept replay alone =
     let size : length b.bytes ≡ setup.ram = kept.whole.part ∙ ap (λ n. b.ram / n) alone ∙ omega (arith, replay.ram) in
     fill_by_all (λ i. byte setup.image made (ram_base + i)) b.bytes setup.ram 0 size (λ i below.
-      let here = alone_in b i kept alone (omega (arith, below, replay.ram)) in
-      let place : i ≡ spot b.banks (ram_base + i) = sym (ap (λ n. spot n (ram_base + i)) alone ∙ spot_alone i) in
-      ap (λ k. slice_index b.bytes k) place ∙ replay.each (ram_base + i) here)
+    let here = alone_in b i kept alone (omega (arith, below, replay.ram)) in
+    let place : i ≡ spot b.banks (ram_base + i) = sym (ap (λ n. spot n (ram_base + i)) alone ∙ spot_alone i) in
+    ap (λ k. slice_index b.bytes k) place ∙ replay.each (ram_base + i) here)

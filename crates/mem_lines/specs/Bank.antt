@@ -1,5 +1,6 @@
 -- One bank of memory, as contracts see it, and what it stands for.
 use Rattle.std.specs.Prelude.{◌≡◌, ℕ, ◌+◌, ◌-◌, ◌*◌, ◌/◌, ◌%◌, ◌<◌, ◌≤◌, Bool, true, if◌then◌else◌, List, length, slice_index, slice_index_or, Option, None, Some}
+use Rattle.std.specs.List.{sum_by}
 use Rattle.flex_base.specs.Limits.{mebibyte}
 use Rattle.flex_base.specs.Word.{is_multiple}
 use Rattle.flex_base.specs.Place.{ram_base, in_ram}
@@ -41,6 +42,12 @@ reserved b hart = slice_index_or b.places hart None
 abbrev pub one_where_some : Option ℕ → ℕ
 one_where_some None = 0
 one_where_some (Some g) = 1
+
+-- so many reservations stand, all of harts below this one
+pub record IsCounted (places : List (Option ℕ)) (standing harts : ℕ) : Type 0 where
+  pub standing_are : standing ≡ sum_by one_where_some places
+  pub few : harts ≤ 32
+  pub above : (hart : ℕ) → harts ≤ hart → slice_index_or places hart None ≡ None
 
 -- the address is in RAM and in this bank
 pub record IsIn (b : Bank) (address : ℕ) : Type 0 where

@@ -114,7 +114,7 @@ impl Lines {
         ensures bytes { result.now ≡ self.now.bytes }
         ensures whole { (setup : Setup) (made : List Done) → IsReplay setup made self.now → self.now.banks ≡ 1 → result.now ≡ map (λ i. byte setup.image made (ram_base + i)) (range_with_len 0 setup.ram) }
     {
-        &self.bytes
+        self.bytes.as_slice()
     }
 
     // Where the bytes of an access begin.

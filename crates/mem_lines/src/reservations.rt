@@ -5,24 +5,25 @@ use std::marker::Model;
 
 // What each hart has reserved.
 //
-// Few harts hold a reservation at a time, so their number is kept: while it is 0 a write has
-// nothing to end.
+// A write looks at the harts below `harts` alone, and at none while no reservation stands.
 #[derive(Drop)]
 pub(crate) struct Reservations {
     places: [Option<u64>; 32],
+    // How many reservations stand.
     standing: u64,
+    // Above each hart that has reserved something.
+    harts: u8,
 }
 
 impl Model for Reservations {
-    ghost use Rattle.std.specs.Prelude.{◌≡◌, ℕ, List, Option};
-    ghost use Rattle.std.specs.List.{sum_by};
-    ghost use Rattle.mem_lines.specs.Bank.{one_where_some};
+    ghost use Rattle.std.specs.Prelude.{ℕ, List, Option};
+    ghost use Rattle.mem_lines.specs.Bank.{IsCounted};
 
     ghost Value = { List (Option ℕ) };
 
     ghost view = { λ r. r.places };
 
-    ghost invariant = { λ r. r.standing ≡ sum_by one_where_some r.places };
+    ghost invariant = { λ r. IsCounted r.places r.standing r.harts };
 }
 
 impl Reservations {
@@ -32,6 +33,7 @@ impl Reservations {
         Reservations {
             places: [None; 32],
             standing: 0,
+            harts: 0,
         }
     }
 
@@ -53,6 +55,9 @@ impl Reservations {
         if self.places[hart as usize].is_none() {
             self.standing += 1;
         }
+        if self.harts <= hart {
+            self.harts = hart + 1;
+        }
         self.places[hart as usize] = Some(granule);
     }
 
@@ -73,7 +78,7 @@ impl Reservations {
         if self.standing == 0 {
             return;
         }
-        for hart in 0..32 {
+        for hart in 0..self.harts {
             if hart != by && self.stands(hart, granule_of(address)) {
                 self.release(hart);
             }
