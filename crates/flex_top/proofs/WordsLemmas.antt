@@ -1,5 +1,5 @@
 -- What has no reading, by how many words there are, and which hart a character names.
-use Rattle.std.proofs.Common.{◌≡◌, ◌==◌, ℕ, ◌+◌, ◌-◌, ◌<◌, ◌≤◌, Bool, true, false, List, [], ◌∷◌, ◌++◌, length, Option, None, Some, refl, ap, ◌∙◌, append-nil, arith}
+use Rattle.std.proofs.Common.{◌≡◌, ◌==◌, ℕ, ◌+◌, ◌-◌, ◌<◌, ◌≤◌, Bool, true, false, List, [], ◌∷◌, ◌++◌, length, None, Some, refl, ap, ◌∙◌, append-nil, arith}
 use Rattle.std.specs.List.{list_all, range_with_len, cons_option}
 use Rattle.std.proofs.lemmas.Bool.{eqb-true}
 use Rattle.std.proofs.lemmas.List.Folds.{list_all_at}
@@ -21,8 +21,8 @@ each_within test a n all c low high =
     let whole : a + (c - a) ≡ c = omega arith in
     let here = get_or-range_with_len a n (c - a) 0 inside ∙ whole in
     elim (test c) as (λ b. test c ≡ b → b ≡ true) [
-      true ↦ λ _. refl
-    | false ↦ λ fails. absurd (let none = list_all_at test (range_with_len a n) (c - a) 0 within (ap test here ∙ fails) in cc)
+      | true ↦ λ _. refl
+      | false ↦ λ fails. absurd (let none = list_all_at test (range_with_len a n) (c - a) 0 within (ap test here ∙ fails) in cc)
     ] refl
 
 digits_named : list_all (λ c. hart_of c == c - 48) (range_with_len 48 10) ≡ true

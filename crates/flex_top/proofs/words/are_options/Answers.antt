@@ -1,4 +1,4 @@
-use Rattle.std.proofs.Common.{◌≡◌, arith, ap, sym, ◌∙◌, map, false, string_bytes}
+use Rattle.std.proofs.Common.{◌≡◌, ap, sym, ◌∙◌, false, string_bytes}
 use Rattle.std.proofs.lemmas.List.Folds.{list_all_at, list_all-map}
 use Rattle.flex_top.specs.Words.{is_option}
 use Rattle.flex_top.proofs.words.are_options.Goals as goal
