@@ -25,6 +25,7 @@ each_within test a n all c low high =
       | false ↦ λ fails. absurd (let none = list_all_at test (range_with_len a n) (c - a) 0 within (ap test here ∙ fails) in cc)
     ] refl
 
+-- which hart each byte names, by a test of every byte
 digits_named : list_all (λ c. hart_of c == c - 48) (range_with_len 48 10) ≡ true
 unfolding hart_of
 digits_named = refl
@@ -59,6 +60,8 @@ no_hart_between c low high = eqb-true (hart_of c) 32 (each_within (λ c. hart_of
 
 pub no_hart_above : (c : ℕ) → 118 < c → c < 256 → hart_of c ≡ 32
 no_hart_above c low high = eqb-true (hart_of c) 32 (each_within (λ c. hart_of c == 32) 119 137 above_named c (omega arith) (omega arith))
+
+pub ruleset harts_named = (digit_hart, letter_hart, no_hart_below, no_hart_between, no_hart_above)
 
 -- the values so far, with those of one more word
 pub values_none : (name : List ℕ) (words : List (List ℕ)) (word : List ℕ) → value_of name word ≡ None → values name (words ++ word ∷ []) ≡ values name words

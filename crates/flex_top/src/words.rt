@@ -210,7 +210,7 @@ fn is_order(text: &[u8]) -> bool
 
 /// The hart that a character names: 0 to 9 by a digit, 10 to 31 by a letter from `a` to `v`. Another
 /// character names none, which is 32.
-#[tactic(auto, using(crate::proofs::WordsLemmas::digit_hart, crate::proofs::WordsLemmas::letter_hart, crate::proofs::WordsLemmas::no_hart_below, crate::proofs::WordsLemmas::no_hart_between, crate::proofs::WordsLemmas::no_hart_above))]
+#[tactic(auto, using(crate::proofs::WordsLemmas::harts_named))]
 pub(crate) fn hart_named(character: u8) -> u8
     ensures { result ≡ hart_of character }
 {
