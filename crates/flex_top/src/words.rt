@@ -1,7 +1,6 @@
-ghost use Rattle.std.specs.Prelude.{◌≡◌, ◌<◌, ◌≤◌, ◌&&◌, List, ℕ, [], ◌∷◌, ◌++◌, map, codes, length, Some, None, All, option_map, IfSome, if◌then◌else◌, string_bytes};
+ghost use Rattle.std.specs.Prelude.{◌≡◌, ◌<◌, ◌≤◌, List, ℕ, [], ◌∷◌, ◌++◌, map, length, Some, None, All, option_map, IfSome, if◌then◌else◌, string_bytes};
 ghost use Rattle.std.specs.List.{list_all};
-ghost use Rattle.flex_base.specs.Limits.{is_within};
-ghost use Rattle.flex_top.specs.Words.{reading, with_options, shown, is_name, is_option, is_digit, number_of, number, hart_of, is_order, order, value_of, values, number_option, order_option, is_solo, IsGiven, IsLimited};
+ghost use Rattle.flex_top.specs.Words.{reading, with_options, shown, is_name, is_option, is_digit, number_of, number, hart_of, is_order, value_of, values, number_option, order_option, is_solo, IsGiven, IsLimited};
 
 /// What `solo` is asked to do.
 #[derive(Clone, Copy, Debug)]
