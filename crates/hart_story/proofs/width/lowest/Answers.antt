@@ -1,6 +1,6 @@
 use Rattle.std.proofs.lemmas.Nat.{and_mask, one_shl}
 use Rattle.std.proofs.Common.{◌<◌, arith}
-use Rattle.hart_story.proofs.memory.lowest.Goals as goal
+use Rattle.hart_story.proofs.width.lowest.Goals as goal
 
 pub returns : goal.returns
 returns c =
