@@ -223,10 +223,30 @@ fn ends_what_it_computed_or_accessed(rt: HostRuntime) {
         (0x02d4d533, 0, muldiv, 0x2aaa_aaaa_aaaa_aaaa),
         (0x0204d533, 0, muldiv, MINUS_1),
         // lb, lh, lw, ld, lbu, lhu and lwu x10, 0(x6)
-        (0x00030503, 0x80, read(0x8000_0100, 1), 0xffff_ffff_ffff_ff80),
-        (0x00031503, 0x8001, read(0x8000_0100, 2), 0xffff_ffff_ffff_8001),
-        (0x00032503, 0x8000_0002, read(0x8000_0100, 4), 0xffff_ffff_8000_0002),
-        (0x00033503, 0x8000_0000_0000_0003, read(0x8000_0100, 8), 0x8000_0000_0000_0003),
+        (
+            0x00030503,
+            0x80,
+            read(0x8000_0100, 1),
+            0xffff_ffff_ffff_ff80,
+        ),
+        (
+            0x00031503,
+            0x8001,
+            read(0x8000_0100, 2),
+            0xffff_ffff_ffff_8001,
+        ),
+        (
+            0x00032503,
+            0x8000_0002,
+            read(0x8000_0100, 4),
+            0xffff_ffff_8000_0002,
+        ),
+        (
+            0x00033503,
+            0x8000_0000_0000_0003,
+            read(0x8000_0100, 8),
+            0x8000_0000_0000_0003,
+        ),
         (0x00034503, 0x80, read(0x8000_0100, 1), 0x80),
         (0x00035503, 0x8001, read(0x8000_0100, 2), 0x8001),
         (0x00036503, 0x8000_0002, read(0x8000_0100, 4), 0x8000_0002),
@@ -234,11 +254,21 @@ fn ends_what_it_computed_or_accessed(rt: HostRuntime) {
         // sc.w x10, x5, (x6), with no reservation
         (0x1853252f, 0, concluded, 1),
         // lr.w x10, (x6), sc.d x10, x5, (x6) and sc.d again
-        (0x1003252f, 0x8000_0000, lr(0x8000_0100, 4), 0xffff_ffff_8000_0000),
+        (
+            0x1003252f,
+            0x8000_0000,
+            lr(0x8000_0100, 4),
+            0xffff_ffff_8000_0000,
+        ),
         (0x1853352f, 0, sc(0x8000_0100, 8, 0x0123_4567_89ab_cdef), 0),
         (0x1853352f, 0, concluded, 1),
         // lr.d x10, (x6), and sc.w x10, x5, (x8), which another hart's write makes fail
-        (0x1003352f, 0x8000_0000_0000_0000, lr(0x8000_0100, 8), 0x8000_0000_0000_0000),
+        (
+            0x1003352f,
+            0x8000_0000_0000_0000,
+            lr(0x8000_0100, 8),
+            0x8000_0000_0000_0000,
+        ),
         (0x1854252f, 1, sc(0x8000_0104, 4, 0x89ab_cdef), 1),
         // lr.w x10, (x6), lr.w x10, (x7), sc.w x10, x5, (x6) and sc.w x10, x5, (x7)
         (0x1003252f, 1, lr(0x8000_0100, 4), 1),
@@ -247,7 +277,12 @@ fn ends_what_it_computed_or_accessed(rt: HostRuntime) {
         (0x1853a52f, 0, concluded, 1),
         // lr.w x10, (x8), amomax.w x10, x5, (x6), and sc.w x10, x5, (x6)
         (0x1004252f, 3, lr(0x8000_0104, 4), 3),
-        (0xa053252f, 0x8000_0004, amo_max(0x8000_0100, 0x89ab_cdef), 0xffff_ffff_8000_0004),
+        (
+            0xa053252f,
+            0x8000_0004,
+            amo_max(0x8000_0100, 0x89ab_cdef),
+            0xffff_ffff_8000_0004,
+        ),
         (0x1853252f, 0, sc(0x8000_0100, 4, 0x89ab_cdef), 0),
     ];
     assert_made(&rt, &mut hart, table.as_slice());
@@ -257,7 +292,11 @@ fn ends_what_it_computed_or_accessed(rt: HostRuntime) {
     for (word, class) in [(0x00532023, Class::Store), (0x0053b02f, Class::Atomic)] {
         let before = hart.regs.x;
         let (_, part) = make(&rt, &mut hart, word, 0);
-        assert_eq!(rt; (part.class, part.first, part.second), (class, 0, 0), "{word:x}");
+        assert_eq!(rt;
+            (part.class, part.first, part.second),
+            (class, 0, 0),
+            "{word:x}"
+        );
         assert_eq!(rt; hart.regs.x, before, "{word:x}");
     }
 }

@@ -105,7 +105,11 @@ fn needs_after_the_fetch(rt: &impl Abort) {
         (0x00000000, Need::Unbuilt),
     ];
     for (word, want) in table {
-        assert_eq!(rt; need_of(&hart_at(0x8000_0000, 0, false), word), want, "{word:x}");
+        assert_eq!(rt;
+            need_of(&hart_at(0x8000_0000, 0, false), word),
+            want,
+            "{word:x}"
+        );
     }
 }
 
