@@ -14,14 +14,19 @@ use Rattle.hart_story.specs.declared.progress.Progress.TheVariants as progress
 abbrev pub setup_of : Layout → ℕ → Setup
 setup_of layout budget = record { image = record { entry = 0; parts = [] }; harts = layout.harts; ram = layout.ram; budget = budget }
 
-pub begun_in : (hart : Hart) (p : Progress) (layout : Layout) (budget : ℕ) → p ≡ progress.Begun → is_multiple layout.ram mebibyte ≡ true → IsFit layout.ram budget (state_of hart.regs)
+-- the layout of the tests: one hart in 1 MiB of RAM
+abbrev pub small : Layout
+small = record { harts = 1; ram = 1048576 }
+
+pub begun_in : (hart : Hart) (p : Progress) (layout : Layout) (budget : ℕ) → p ≡ progress.Begun → layout ≡ small → IsFit 1048576 budget (state_of hart.regs)
     → IsIn (setup_of layout budget) (state_of hart.regs) [] hart p layout budget
-begun_in hart p layout budget begun whole fit =
+begun_in hart p layout budget begun is fit =
     let Sound : Progress → Type 0 = λ q. IsSoundProgress layout hart q in
+    let Fit : Layout → Type 0 = λ l. IsFit l.ram budget (state_of hart.regs) in
     record {
-      of = record { harts = refl; ram = refl; budget = refl; whole = whole };
+      of = record { harts = refl; ram = refl; budget = refl; whole = ap (λ (l : Layout). is_multiple l.ram mebibyte) is };
       stands = record { pc = refl; x = refl; ends = refl; mode = refl; reservation = refl; lines = refl; due = refl };
-      fit = fit;
+      fit = subst Fit (sym is) fit;
       reached = sym (ap (node (setup_of layout budget) (state_of hart.regs)) begun);
       sound = subst Sound (sym begun) tt;
     }

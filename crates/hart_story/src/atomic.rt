@@ -35,7 +35,14 @@ pub(crate) fn load_reserved(layout: &Layout, width: u8, rd: u8, address: u64) ->
 }
 
 // A store-conditional. Where the hart has no reservation of these 8 bytes it fails with no access.
-pub(crate) fn store_conditional(hart: &Hart, layout: &Layout, width: u8, rd: u8, address: u64, value: u64) -> Outcome
+pub(crate) fn store_conditional(
+    hart: &Hart,
+    layout: &Layout,
+    width: u8,
+    rd: u8,
+    address: u64,
+    value: u64,
+) -> Outcome
     requires width { IsAtomicWidth width }
     requires register { rd < 32 }
     ensures works { (setup : Setup) (most : ℕ) (a : State) → IsOf setup layout.now most → Shows hart.now a
@@ -70,7 +77,14 @@ pub(crate) fn concluded(hart: &Hart, rd: u8, status: u64) -> End
 }
 
 // An atomic memory operation.
-pub(crate) fn modify(layout: &Layout, op: AmoOp, width: u8, rd: u8, address: u64, value: u64) -> Outcome
+pub(crate) fn modify(
+    layout: &Layout,
+    op: AmoOp,
+    width: u8,
+    rd: u8,
+    address: u64,
+    value: u64,
+) -> Outcome
     requires width { IsAtomicWidth width }
     requires register { rd < 32 }
     ensures works { (setup : Setup) (most : ℕ) (a : State) → IsOf setup layout.now most → modifies setup a op width rd address value ≡ outcome_of a result }

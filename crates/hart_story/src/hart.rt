@@ -20,7 +20,9 @@ impl Hart {
     pub fn start(hart: HartId, entry: u64) -> Hart
         ensures { StandsFor result (start hart.0 entry) }
     {
-        Hart { regs: Regs::start(hart, entry) }
+        Hart {
+            regs: Regs::start(hart, entry),
+        }
     }
 }
 

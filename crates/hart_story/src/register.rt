@@ -30,7 +30,13 @@ pub(crate) fn passed(hart: &Hart, class: Class) -> End
 }
 
 // An end that goes on at the next instruction with a value for a register, and leaves this reservation.
-pub(crate) fn reserved(hart: &Hart, class: Class, rd: u8, value: u64, reservation: Option<u64>) -> End
+pub(crate) fn reserved(
+    hart: &Hart,
+    class: Class,
+    rd: u8,
+    value: u64,
+    reservation: Option<u64>,
+) -> End
     requires built { is_built_class class ≡ true }
     requires register { rd < 32 }
     ensures works { (a : State) → Shows hart.now a → end_of a result ≡ computes (record a { reservation = reservation }) class rd value }

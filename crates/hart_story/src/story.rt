@@ -62,7 +62,10 @@ pub fn give(hart: &Hart, progress: &mut Progress, layout: &Layout, budget: u64, 
         Progress::Pulsed(lines) => fetched(hart, layout, lines, reply),
         Progress::Working(lines, outcome) => match outcome {
             Outcome::Ask { access, signed, rd } => {
-                Progress::Working(lines, Outcome::End(replied(hart, access, signed, rd, reply.value)))
+                Progress::Working(
+                    lines,
+                    Outcome::End(replied(hart, access, signed, rd, reply.value)),
+                )
             }
             _ => unreachable!(),
         },

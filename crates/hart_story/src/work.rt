@@ -18,59 +18,27 @@ use flex_base::{Class, Layout, Op};
 use rv_alu::{alu, muldiv};
 use rv_decode::decode;
 
-// What the word does.
+// What the word does, an operation a line.
+#[rattlefmt::skip]
 pub(crate) fn work(hart: &Hart, layout: &Layout, word: u32) -> Outcome
     ensures works { (setup : Setup) (most : ℕ) (a : State) → IsOf setup layout.now most → Shows hart.now a → works setup a (decoded word) ≡ outcome_of a result }
     ensures sound { IsSoundOutcome layout.now hart.now result }
 {
+    let pc = hart.regs.pc;
     match operation(word) {
         Op::Lui { rd, imm } => Outcome::End(computed(hart, Class::Alu, rd, imm)),
-        Op::Auipc { rd, imm } => Outcome::End(computed(hart, Class::Alu, rd, hart.regs.pc.wrapping_add(imm))),
+        Op::Auipc { rd, imm } => Outcome::End(computed(hart, Class::Alu, rd, pc.wrapping_add(imm))),
         Op::AluImm { op, rd, rs1, imm } => Outcome::End(computed(hart, Class::Alu, rd, alu(op, read(hart, rs1), imm))),
-        Op::AluReg { op, rd, rs1, rs2 } => {
-            Outcome::End(computed(hart, Class::Alu, rd, alu(op, read(hart, rs1), read(hart, rs2))))
-        }
-        Op::Muldiv { op, rd, rs1, rs2 } => {
-            Outcome::End(computed(hart, Class::Muldiv, rd, muldiv(op, read(hart, rs1), read(hart, rs2))))
-        }
-        Op::Jal { rd, imm } => jump(hart, hart.regs.pc.wrapping_add(imm), rd),
+        Op::AluReg { op, rd, rs1, rs2 } => Outcome::End(computed(hart, Class::Alu, rd, alu(op, read(hart, rs1), read(hart, rs2)))),
+        Op::Muldiv { op, rd, rs1, rs2 } => Outcome::End(computed(hart, Class::Muldiv, rd, muldiv(op, read(hart, rs1), read(hart, rs2)))),
+        Op::Jal { rd, imm } => jump(hart, pc.wrapping_add(imm), rd),
         Op::Jalr { rd, rs1, imm } => jump(hart, even(read(hart, rs1).wrapping_add(imm)), rd),
-        Op::Branch { op, rs1, rs2, imm } => {
-            branch(
-                hart,
-                op,
-                read(hart, rs1),
-                read(hart, rs2),
-                hart.regs.pc.wrapping_add(imm),
-            )
-        }
-        Op::Load {
-            width,
-            signed,
-            rd,
-            rs1,
-            imm,
-        } => { load(layout, width, signed, rd, read(hart, rs1).wrapping_add(imm)) }
-        Op::Store {
-            width,
-            rs1,
-            rs2,
-            imm,
-        } => {
-            store(
-                layout,
-                width,
-                read(hart, rs1).wrapping_add(imm),
-                read(hart, rs2),
-            )
-        }
+        Op::Branch { op, rs1, rs2, imm } => branch(hart, op, read(hart, rs1), read(hart, rs2), pc.wrapping_add(imm)),
+        Op::Load { width, signed, rd, rs1, imm } => load(layout, width, signed, rd, read(hart, rs1).wrapping_add(imm)),
+        Op::Store { width, rs1, rs2, imm } => store(layout, width, read(hart, rs1).wrapping_add(imm), read(hart, rs2)),
         Op::Lr { width, rd, rs1, .. } => load_reserved(layout, width, rd, read(hart, rs1)),
-        Op::Sc { width, rd, rs1, rs2, .. } => {
-            store_conditional(hart, layout, width, rd, read(hart, rs1), read(hart, rs2))
-        }
-        Op::Amo { op, width, rd, rs1, rs2, .. } => {
-            modify(layout, op, width, rd, read(hart, rs1), read(hart, rs2))
-        }
+        Op::Sc { width, rd, rs1, rs2, .. } => store_conditional(hart, layout, width, rd, read(hart, rs1), read(hart, rs2)),
+        Op::Amo { op, width, rd, rs1, rs2, .. } => modify(layout, op, width, rd, read(hart, rs1), read(hart, rs2)),
         Op::Fence { .. } | Op::FenceI { .. } => Outcome::End(passed(hart, Class::Fence)),
         _ => Outcome::Unbuilt,
     }
