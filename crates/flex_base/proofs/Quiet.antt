@@ -37,9 +37,12 @@ built_by : (b : Bool) (pc : ℕ) → (if b then None else Some pc) ≡ None → 
 built_by true pc e = refl
 built_by false pc e = absurd cc
 
+quiet_by : (setup : Setup) (u : Machine) (h pc : ℕ) (w : Want) (b : Bool) → (if b then (if is_built w then None else Some pc) else None) ≡ None → sent (if b then make setup u h w else u).events ≡ sent u.events
+quiet_by setup u h pc w true built = quiet_make setup u h w (built_by (is_built w) pc built)
+quiet_by setup u h pc w false built = refl
+
 quiet_step : (setup : Setup) (u : Machine) (h : ℕ) → unbuilt_at setup u h ≡ None → sent (step setup u h).events ≡ sent u.events
-quiet_step setup u h built = elim (nat_lt h setup.harts) as (λ b. sent (if b then make setup u h (want_of setup u h) else u).events ≡ sent u.events)
-    [ true ↦ quiet_make setup u h (want_of setup u h) (built_by (is_built (want_of setup u h)) (half_at u h).state.pc built) | false ↦ refl ]
+quiet_step setup u h built = quiet_by setup u h (half_at u h).state.pc (want_of setup u h) (nat_lt h setup.harts) built
 
 first_none : (a b : Option ℕ) → first_of a b ≡ None → (a ≡ None) × (b ≡ None)
 first_none None b e = (refl, e)

@@ -1,5 +1,5 @@
 -- What is built: the machine goes on with more, and the product stops before it.
-use Rattle.std.specs.Prelude.{ℕ, Bool, true, false, if◌then◌else◌, List, [], ◌∷◌, Option, None, Some}
+use Rattle.std.specs.Prelude.{ℕ, Bool, true, false, nat_lt, if◌then◌else◌, List, [], ◌∷◌, Option, None, Some}
 use Rattle.flex_base.specs.Setup.{Setup}
 use Rattle.flex_base.specs.Story.{Want, Asks, Ends, IsOver, IsLater}
 use Rattle.flex_base.specs.Unsplit.{Machine, half_at, want_of, step}
@@ -37,9 +37,9 @@ is_built (Ends part next) = is_built_class part.class
 is_built IsOver = true
 is_built IsLater = false
 
--- the pc of the hart, where its next event isn't built
+-- the pc of the hart, where its next event isn't built; a name without a hart makes no event
 abbrev pub unbuilt_at : Setup → Machine → ℕ → Option ℕ
-unbuilt_at setup u h = if is_built (want_of setup u h) then None else Some (half_at u h).state.pc
+unbuilt_at setup u h = if nat_lt h setup.harts then (if is_built (want_of setup u h) then None else Some (half_at u h).state.pc) else None
 
 abbrev pub first_of : Option ℕ → Option ℕ → Option ℕ
 first_of None other = other
