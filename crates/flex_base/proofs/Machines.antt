@@ -1,5 +1,5 @@
 -- Single steps of the unsplit machine.
-use Rattle.std.proofs.Common.{◌≡◌, ℕ, ◌<◌, true, false, if◌then◌else◌, nat_lt, List, [], ◌∷◌, ◌++◌, length, refl, ap, ◌∙◌, arith, get_or, set, length-set, get_or-set_same}
+use Rattle.std.proofs.Common.{◌≡◌, ◌≢◌, ℕ, ◌<◌, true, false, if◌then◌else◌, nat_lt, List, [], ◌∷◌, ◌++◌, length, refl, ap, ◌∙◌, arith, get_or, set, length-set, get_or-set_same, get_or-set_other}
 use Rattle.std.proofs.lemmas.Bool.Decides.{nat_tests}
 use Rattle.std.proofs.lemmas.List.Sums.{fold_push, fold-append}
 use Rattle.flex_base.specs.Setup.{Setup}
@@ -82,3 +82,14 @@ step_steps setup u h = elim (nat_lt h setup.harts) as (λ b. StepsTo u h (if b t
 -- a step keeps the number of harts
 pub length-step : (setup : Setup) (u : Machine) (h : ℕ) → length (step setup u h).harts ≡ length u.harts
 length-step setup u h = elim (step_steps setup u h) [ Stays e ↦ ap (λ (m : Machine). length m.harts) e | Adds x plain events same ↦ same ]
+
+-- a step of one hart leaves the others where they are
+make_other : (setup : Setup) (u : Machine) (h k : ℕ) (w : Want) → k ≢ h → half_at (make setup u h w) k ≡ half_at u k
+make_other setup u h k (Asks access) other = get_or-set_other u.harts h k _ _ other
+make_other setup u h k (Ends part after) other = get_or-set_other u.harts h k _ _ other
+make_other setup u h k IsOver other = refl
+make_other setup u h k IsLater other = refl
+
+pub half_at-other : (setup : Setup) (u : Machine) (h k : ℕ) → k ≢ h → half_at (step setup u h) k ≡ half_at u k
+half_at-other setup u h k other = elim (nat_lt h setup.harts) as (λ b. half_at (if b then make setup u h (want_of setup u h) else u) k ≡ half_at u k)
+    [ true ↦ make_other setup u h k (want_of setup u h) other | false ↦ refl ]

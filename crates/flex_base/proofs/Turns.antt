@@ -1,10 +1,11 @@
 -- Turns, rounds and the end of a run.
-use Rattle.std.proofs.Common.{◌≡◌, ℕ, ◌<◌, Bool, true, false, ◌&&◌, if◌then◌else◌, List, [], ◌∷◌, ◌++◌, length, Option, None, Some, refl, ap, sym, ◌∙◌}
+use Rattle.std.proofs.Common.{◌≡◌, ℕ, ◌+◌, ◌<◌, ◌≤◌, zero, suc, Bool, true, false, ◌&&◌, if◌then◌else◌, List, [], ◌∷◌, ◌++◌, length, Option, None, Some, ◌⊎◌, inl, inr, refl, ap, sym, ◌∙◌, arith, append_assoc}
+use Rattle.std.proofs.lemmas.Bool.{cases_eq, cases_Bool}
 use Rattle.std.specs.Prelude.{is_some}
 use Rattle.std.specs.List.{list_all, range_with_len}
 use Rattle.flex_base.specs.Setup.{Setup}
 use Rattle.flex_base.specs.State.{State}
-use Rattle.flex_base.specs.Story.{Asks, Ends, IsOver, IsLater, Story, Says, Closes, StaysOver, ComesLater, want}
+use Rattle.flex_base.specs.Story.{Want, Asks, Ends, IsOver, IsLater, Story, Says, Closes, StaysOver, ComesLater, want}
 use Rattle.flex_base.specs.Unsplit.{Machine, story_of, want_of, reply_to, step, reach_from, hart_numbers, is_spent, stop_of, is_over, has_ended}
 use Rattle.flex_base.specs.Rounds.{turn, turn_of, turns}
 use Rattle.flex_base.specs.Built.{unbuilt_at, first_of, first_unbuilt}
@@ -12,7 +13,7 @@ use Rattle.flex_base.specs.declared.access.Access.{Access}
 use Rattle.flex_base.specs.declared.access.Reply.{Reply}
 use Rattle.flex_base.specs.declared.event.EndPart.{EndPart}
 use Rattle.flex_base.specs.declared.event.Stop.TheVariants as stop
-use Rattle.flex_base.proofs.Machines.{reach-cons, reach-none, story_after_access}
+use Rattle.flex_base.proofs.Machines.{reach-append, reach-cons, reach-none, story_after_access}
 
 -- The story by what is wanted.
 
@@ -79,30 +80,53 @@ first_unbuilt-append setup u (h ∷ xs) ys =
     ∙ first_of_assoc (unbuilt_at setup u h) (first_unbuilt setup (step setup u h) xs) (first_unbuilt setup (reach_from setup (step setup u h) xs) ys)
     ∙ ap (λ m. first_of (first_of (unbuilt_at setup u h) (first_unbuilt setup (step setup u h) xs)) (first_unbuilt setup m ys)) (sym (reach-cons setup u h xs))
 
--- One hart alone.
+-- All harts.
 
-pub names_alone : (setup : Setup) → setup.harts ≡ 1 → hart_numbers setup ≡ 0 ∷ []
-names_alone setup one = ap (range_with_len 0) one
+below_suc : (a n h : ℕ) → a ≤ h → h < a + suc n → (h ≡ a) ⊎ ((a + 1 ≤ h) × (h < (a + 1) + n))
+below_suc a n h from below = elim (cases_eq h a) [ inl same ↦ inl same | inr other ↦ inr (omega (arith, from, other), omega (arith, below)) ]
 
-pub stop_alone : (setup : Setup) (u : Machine) → setup.harts ≡ 1 → is_spent u.devices 0 ≡ true → stop_of setup u ≡ Some stop.Budget
-stop_alone setup u one spent =
-    ap (λ ns. if list_all (is_spent u.devices) ns then Some stop.Budget else None) (names_alone setup one)
-    ∙ ap (λ b. if b && true then Some stop.Budget else None) spent
+all_numbers : (p : ℕ → Bool) (a n : ℕ) → ((h : ℕ) → a ≤ h → h < a + n → p h ≡ true) → list_all p (range_with_len a n) ≡ true
+all_numbers p a zero each = refl
+all_numbers p a (suc n) each =
+    ap (λ b. b && list_all p (range_with_len (a + 1) n)) (each a (omega arith) (omega arith))
+    ∙ all_numbers p (a + 1) n (λ h from below. each h (omega (arith, from)) (omega (arith, below)))
 
-pub ended_alone : (setup : Setup) (u : Machine) → setup.harts ≡ 1 → is_spent u.devices 0 ≡ true → want_of setup u 0 ≡ IsOver → has_ended setup u ≡ true
-ended_alone setup u one spent over =
-    ap (λ o. is_some o && list_all (λ h. is_over (want_of setup u h)) (hart_numbers setup)) (stop_alone setup u one spent)
-    ∙ ap (λ ns. true && list_all (λ h. is_over (want_of setup u h)) ns) (names_alone setup one)
-    ∙ ap (λ w. true && (is_over w && true)) over
+and_none : (a : Bool) → (a && false) ≡ false
+and_none true = refl
+and_none false = refl
 
-and_false : (a b : Bool) → b ≡ false → (a && (b && true)) ≡ false
-and_false true b e = ap (λ c. true && (c && true)) e
-and_false false b e = refl
+some_number : (p : ℕ → Bool) (a n h : ℕ) → a ≤ h → h < a + n → p h ≡ false → list_all p (range_with_len a n) ≡ false
+some_number p a zero h from below e = absurd (omega (arith, from, below))
+some_number p a (suc n) h from below e = elim (below_suc a n h from below) [
+  | inl same ↦ ap (λ k. p k && list_all p (range_with_len (a + 1) n)) (sym same) ∙ ap (λ b. b && list_all p (range_with_len (a + 1) n)) e
+  | inr later ↦ ap (λ b. p a && b) (some_number p (a + 1) n h later.0 later.1 e) ∙ and_none (p a)
+]
 
-pub busy_alone : (setup : Setup) (u : Machine) → setup.harts ≡ 1 → is_over (want_of setup u 0) ≡ false → has_ended setup u ≡ false
-busy_alone setup u one busy =
-    ap (λ ns. is_some (stop_of setup u) && list_all (λ h. is_over (want_of setup u h)) ns) (names_alone setup one)
-    ∙ and_false (is_some (stop_of setup u)) (is_over (want_of setup u 0)) busy
+-- a run in which all harts are spent and over has ended
+pub ended_all : (setup : Setup) (u : Machine) → ((h : ℕ) → h < setup.harts → is_spent u.devices h ≡ true) → ((h : ℕ) → h < setup.harts → want_of setup u h ≡ IsOver) → has_ended setup u ≡ true
+ended_all setup u spent over =
+    ap (λ b. is_some (if b then Some stop.Budget else None) && list_all (λ h. is_over (want_of setup u h)) (hart_numbers setup))
+        (all_numbers (is_spent u.devices) 0 setup.harts (λ h from below. spent h (omega (arith, below))))
+    ∙ all_numbers (λ h. is_over (want_of setup u h)) 0 setup.harts (λ h from below. ap is_over (over h (omega (arith, below))))
+
+-- one in which some hart isn't over hasn't
+pub ended_not : (setup : Setup) (u : Machine) (h : ℕ) → h < setup.harts → is_over (want_of setup u h) ≡ false → has_ended setup u ≡ false
+ended_not setup u h below busy =
+    ap (λ b. is_some (stop_of setup u) && b) (some_number (λ k. is_over (want_of setup u k)) 0 setup.harts h (omega arith) (omega (arith, below)) busy)
+    ∙ and_none (is_some (stop_of setup u))
+
+over_by : (w : Want) → is_over w ≡ true → w ≡ IsOver
+over_by (Asks access) e = absurd cc
+over_by (Ends part after) e = absurd cc
+over_by IsOver e = refl
+over_by IsLater e = absurd cc
+
+-- where the run has ended, each hart is over
+pub over_ended : (setup : Setup) (u : Machine) (h : ℕ) → has_ended setup u ≡ true → h < setup.harts → want_of setup u h ≡ IsOver
+over_ended setup u h ended below = elim (cases_Bool (is_over (want_of setup u h))) [
+  | inl over ↦ over_by (want_of setup u h) over
+  | inr busy ↦ let not_yet = ended_not setup u h below busy in absurd cc
+]
 
 -- Rounds.
 
@@ -121,3 +145,34 @@ stop_by false c e = absurd cc
 -- a run that has ended has spent all budgets
 pub stop_ended : (setup : Setup) (u : Machine) → has_ended setup u ≡ true → stop_of setup u ≡ Some stop.Budget
 stop_ended setup u ended = stop_by (list_all (is_spent u.devices) (hart_numbers setup)) (list_all (λ h. is_over (want_of setup u h)) (hart_numbers setup)) ended
+
+-- a turn more, also where the run has ended, since then it has no event
+pub turns-cons : (setup : Setup) (u : Machine) (h : ℕ) (harts : List ℕ) → h < setup.harts
+    → turns setup u (h ∷ harts) ≡ turn_of setup u h ++ turns setup (reach_from setup u (turn_of setup u h)) harts
+turns-cons setup u h harts below = elim (cases_Bool (has_ended setup u)) [
+  | inl ended ↦
+      let still = turn_of-over setup u h (over_ended setup u h ended below) in
+      turns_ended setup u (h ∷ harts) ended
+      ∙ sym (turns_ended setup u harts ended)
+      ∙ ap (λ m. turns setup m harts) (sym (reach-none setup u))
+      ∙ ap (λ names. names ++ turns setup (reach_from setup u names) harts) (sym still)
+  | inr busy ↦ turns_busy setup u h harts busy
+]
+
+pub turns-append : (setup : Setup) (u : Machine) (xs ys : List ℕ) → turns setup u (xs ++ ys) ≡ turns setup u xs ++ turns setup (reach_from setup u (turns setup u xs)) ys
+turns-append setup u [] ys = ap (λ m. turns setup m ys) (sym (reach-none setup u))
+turns-append setup u (h ∷ xs) ys = elim (cases_Bool (has_ended setup u)) [
+  | inl ended ↦
+      turns_ended setup u (h ∷ (xs ++ ys)) ended
+      ∙ sym (turns_ended setup u ys ended)
+      ∙ ap (λ m. turns setup m ys) (sym (reach-none setup u))
+      ∙ ap (λ names. names ++ turns setup (reach_from setup u names) ys) (sym (turns_ended setup u (h ∷ xs) ended))
+  | inr busy ↦
+      let first = turn_of setup u h in
+      let v = reach_from setup u first in
+      turns_busy setup u h (xs ++ ys) busy
+      ∙ ap (λ names. first ++ names) (turns-append setup v xs ys)
+      ∙ sym (append_assoc first (turns setup v xs) (turns setup (reach_from setup v (turns setup v xs)) ys))
+      ∙ ap (λ m. (first ++ turns setup v xs) ++ turns setup m ys) (sym (reach-append setup u first (turns setup v xs)))
+      ∙ ap (λ names. names ++ turns setup (reach_from setup u names) ys) (sym (turns_busy setup u h xs busy))
+]
