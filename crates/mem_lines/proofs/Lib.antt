@@ -3,3 +3,4 @@ pub mod Storing
 pub mod Dealing
 pub mod Replays
 pub mod Laying
+mod Whole

@@ -76,6 +76,11 @@ pub record IsWhole (ram banks : ℕ) (bytes : List ℕ) : Type 0 where
   pub small : ram ≤ 256 * mebibyte
   pub part : length bytes ≡ ram / banks
 
+-- what a bank keeps: its part of RAM, and its number is below that of the banks
+pub record IsKept (ram banks bank : ℕ) (bytes : List ℕ) : Type 0 where
+  pub whole : IsWhole ram banks bytes
+  pub below : bank < banks
+
 -- what a part of the image leaves of the byte at an address
 abbrev pub laid : ℕ → ℕ → ℕ × List ℕ → ℕ
 laid address old part = if covers part.0 (length part.1) address then slice_index part.1 (address - part.0) else old

@@ -1,6 +1,8 @@
-ghost use Rattle.std.specs.Prelude.{◌≡◌, ℕ, ◌+◌, ◌*◌, ◌^◌, ◌<◌, ◌≤◌, ◌⊎◌, true, ◌==◌, if◌then◌else◌, List, [], length, IfOk};
+ghost use Rattle.std.specs.Prelude.{◌≡◌, ℕ, ◌+◌, ◌*◌, ◌^◌, ◌<◌, ◌≤◌, ◌⊎◌, true, ◌==◌, if◌then◌else◌, List, [], length, map, IfOk};
+ghost use Rattle.std.specs.List.{range_with_len};
 ghost use Rattle.flex_base.specs.Limits.{is_lawful};
 ghost use Rattle.flex_base.specs.Loaded.{image_fits};
+ghost use Rattle.flex_base.specs.Place.{ram_base};
 ghost use Rattle.flex_base.specs.Setup.{Setup};
 ghost use Rattle.flex_base.specs.Forms.{HasForm};
 ghost use Rattle.flex_base.specs.Unsplit.{noted};
@@ -32,13 +34,13 @@ pub struct Lines {
 }
 
 impl Model for Lines {
-    ghost use Rattle.mem_lines.specs.Bank.{Bank, IsWhole};
+    ghost use Rattle.mem_lines.specs.Bank.{Bank, IsKept};
 
     ghost Value = { Bank };
 
     ghost view = { λ l. record { ram = l.ram; banks = l.banks; bank = l.bank; bytes = l.bytes.items; places = l.places } };
 
-    ghost invariant = { λ l. IsWhole l.ram l.banks l.bytes.items };
+    ghost invariant = { λ l. IsKept l.ram l.banks l.bank l.bytes.items };
 }
 
 impl Lines {
@@ -103,6 +105,16 @@ impl Lines {
     {
         let bytes: &[u8] = &self.bytes;
         bytes[spot(self.banks, address)]
+    }
+
+    /// The bytes of this bank, one line of 64 after another.
+    ///
+    /// Where there is one bank, they are all bytes of RAM.
+    pub fn bytes(&self) -> &[u8]
+        ensures bytes { result.now ≡ self.now.bytes }
+        ensures whole { (setup : Setup) (made : List Done) → IsReplay setup made self.now → self.now.banks ≡ 1 → result.now ≡ map (λ i. byte setup.image made (ram_base + i)) (range_with_len 0 setup.ram) }
+    {
+        &self.bytes
     }
 
     // Where the bytes of an access begin.
