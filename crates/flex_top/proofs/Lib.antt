@@ -1,6 +1,5 @@
 pub mod WordsLemmas
 pub mod HexDigits
-pub mod Bytes
 pub mod Playing
 pub mod Rounds
 pub mod Writing

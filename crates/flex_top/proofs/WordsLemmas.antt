@@ -1,14 +1,60 @@
--- What has no reading, by how many words there are.
-use Rattle.std.proofs.Common.{◌≡◌, ℕ, ◌<◌, ◌≤◌, List, [], ◌∷◌, length, None, refl, arith}
-use Rattle.flex_top.specs.Words.{options, reading}
-
-pub options_one : (ws : List (List ℕ)) → 1 ≤ length ws → length ws < 2 → options ws ≡ None
-options_one [] some few = absurd (omega arith)
-options_one (a ∷ []) some few = refl
-options_one (a ∷ b ∷ rest) some few = absurd (omega arith)
+-- What has no reading, by how many words there are, and which hart a character names.
+use Rattle.std.proofs.Common.{◌≡◌, ◌==◌, ℕ, ◌+◌, ◌-◌, ◌<◌, ◌≤◌, Bool, true, false, List, [], ◌∷◌, length, None, refl, ap, ◌∙◌, arith}
+use Rattle.std.specs.List.{list_all, range_with_len}
+use Rattle.std.proofs.lemmas.Bool.{eqb-true}
+use Rattle.std.proofs.lemmas.List.Folds.{list_all_at}
+use Rattle.std.proofs.lemmas.List.FromFn.{length-range_with_len, get_or-range_with_len}
+use Rattle.flex_top.specs.Words.{reading, hart_of}
 
 pub reading_short : (ws : List (List ℕ)) → length ws < 3 → reading ws ≡ None
 reading_short [] few = refl
 reading_short (a ∷ []) few = refl
 reading_short (a ∷ b ∷ []) few = refl
 reading_short (a ∷ b ∷ c ∷ rest) few = absurd (omega arith)
+
+-- a test of all numbers from a up is a test of each
+each_within : (test : ℕ → Bool) (a n : ℕ) → list_all test (range_with_len a n) ≡ true → (c : ℕ) → a ≤ c → c < a + n → test c ≡ true
+each_within test a n all c low high =
+    let inside : c - a < n = omega arith in
+    let within : c - a < length (range_with_len a n) = omega (arith, length-range_with_len a n) in
+    let whole : a + (c - a) ≡ c = omega arith in
+    let here = get_or-range_with_len a n (c - a) 0 inside ∙ whole in
+    elim (test c) as (λ b. test c ≡ b → b ≡ true) [
+      true ↦ λ _. refl
+    | false ↦ λ fails. absurd (let none = list_all_at test (range_with_len a n) (c - a) 0 within (ap test here ∙ fails) in cc)
+    ] refl
+
+digits_named : list_all (λ c. hart_of c == c - 48) (range_with_len 48 10) ≡ true
+unfolding hart_of
+digits_named = refl
+
+letters_named : list_all (λ c. hart_of c == c - 97 + 10) (range_with_len 97 22) ≡ true
+unfolding hart_of
+letters_named = refl
+
+below_named : list_all (λ c. hart_of c == 32) (range_with_len 0 48) ≡ true
+unfolding hart_of
+below_named = refl
+
+between_named : list_all (λ c. hart_of c == 32) (range_with_len 58 39) ≡ true
+unfolding hart_of
+between_named = refl
+
+above_named : list_all (λ c. hart_of c == 32) (range_with_len 119 137) ≡ true
+unfolding hart_of
+above_named = refl
+
+pub digit_hart : (c : ℕ) → 48 ≤ c → c ≤ 57 → hart_of c ≡ c - 48
+digit_hart c low high = eqb-true (hart_of c) (c - 48) (each_within (λ c. hart_of c == c - 48) 48 10 digits_named c low (omega arith))
+
+pub letter_hart : (c : ℕ) → 97 ≤ c → c ≤ 118 → hart_of c ≡ c - 97 + 10
+letter_hart c low high = eqb-true (hart_of c) (c - 97 + 10) (each_within (λ c. hart_of c == c - 97 + 10) 97 22 letters_named c low (omega arith))
+
+pub no_hart_below : (c : ℕ) → c < 48 → hart_of c ≡ 32
+no_hart_below c high = eqb-true (hart_of c) 32 (each_within (λ c. hart_of c == 32) 0 48 below_named c (omega arith) (omega arith))
+
+pub no_hart_between : (c : ℕ) → 57 < c → c < 97 → hart_of c ≡ 32
+no_hart_between c low high = eqb-true (hart_of c) 32 (each_within (λ c. hart_of c == 32) 58 39 between_named c (omega arith) (omega arith))
+
+pub no_hart_above : (c : ℕ) → 118 < c → c < 256 → hart_of c ≡ 32
+no_hart_above c low high = eqb-true (hart_of c) 32 (each_within (λ c. hart_of c == 32) 119 137 above_named c (omega arith) (omega arith))

@@ -130,6 +130,11 @@ abbrev pub RoundCounts : Option ℕ → Player → Player → Type 0
 RoundCounts None old new = (length new.harts.items ≡ length old.harts.items) × ((n : ℕ) → AllMade n old → AllMade (n + 1) new)
 RoundCounts (Some pc) old new = Unit {0}
 
+-- the named hart's next event was made, or isn't built
+abbrev pub AfterName : Setup → Machine → ℕ → Option ℕ → Player → Type 0
+AfterName setup u h None player = IsStepped setup u h player
+AfterName setup u h (Some pc) player = unbuilt_at setup u h ≡ Some pc
+
 -- these events of an order are made, and are built
 pub record IsReached (setup : Setup) (names : List ℕ) (player : Player) : Type 0 where
   pub at : IsAt setup (reach setup names) player

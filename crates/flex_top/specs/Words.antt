@@ -1,16 +1,20 @@
 -- The words of the command line, as a grammar. A part that doesn't read makes the whole unreadable.
-use Rattle.std.specs.Prelude.{ℕ, ◌+◌, ◌-◌, ◌*◌, ◌≤◌, Bool, false, not, ◌&&◌, ◌==◌, if◌then◌else◌, List, [], ◌∷◌, length, drop, fold, codes, nat_eq, bytes_eq, Option, None, Some, option_map, option_and_then}
-use Rattle.std.specs.List.{list_all, starts_with}
+use Rattle.std.specs.Prelude.{◌≡◌, ℕ, ◌+◌, ◌-◌, ◌*◌, ◌<◌, ◌≤◌, Bool, true, false, not, ◌&&◌, ◌||◌, ◌==◌, nat_le, nat_lt, if◌then◌else◌, List, [], ◌∷◌, length, drop, map, fold, All, codes, nat_eq, bytes_eq, Option, None, Some, option_and_then}
+use Rattle.std.specs.List.{list_all, filter_map, position_or_len, starts_with}
 use Rattle.flex_base.specs.Limits.{is_within, mebibyte}
+use Rattle.flex_base.specs.Word.{is_multiple}
 use Rattle.flex_top.specs.declared.words.Command.{Command}
-use Rattle.flex_top.specs.declared.words.Size.{Size}
+use Rattle.flex_top.specs.declared.words.Given.{Given}
+use Rattle.flex_top.specs.declared.words.Given.TheVariants as as_given
 
--- what `solo` is asked to do: the names of the image and the trace, RAM in bytes, and how many ends each hart may make
+-- what `solo` is asked to do: the names of the image and the trace, how many harts, RAM in bytes, how many ends each hart may make, and the harts that make the next events before the rounds
 pub record Reading : Type 0 where
   pub image : List ℕ
   pub trace : List ℕ
+  pub harts : ℕ
   pub ram : ℕ
   pub budget : ℕ
+  pub order : List ℕ
 
 -- a name isn't empty and doesn't begin with `-`
 abbrev pub is_name : List ℕ → Bool
@@ -32,40 +36,83 @@ number_of digits = fold (λ n digit. 10 * n + (digit - 48)) 0 digits
 abbrev pub number : ℕ → List ℕ → Option ℕ
 number most word = if is_number word && is_within 1 most (number_of word) then Some (number_of word) else None
 
+-- the hart that a character names, by its place among the names; 32, which is no hart, where it names none
+unfoldable pub hart_of : ℕ → ℕ
+hart_of character = position_or_len (λ name. name == character) (codes "0123456789abcdefghijklmnopqrstuv")
+
+abbrev pub is_hart_name : ℕ → Bool
+is_hart_name character = nat_lt (hart_of character) 32
+
+-- 1 to 65,536 names of harts
+abbrev pub is_order : List ℕ → Bool
+is_order text = is_within 1 65536 (length text) && list_all is_hart_name text
+
+abbrev pub order : List ℕ → Option (List ℕ)
+order text = if is_order text then Some (map hart_of text) else None
+
 -- the value of an option, a word that begins with this text
 abbrev pub value_of : List ℕ → List ℕ → Option (List ℕ)
 value_of name word = if starts_with nat_eq word name then Some (drop (length name) word) else None
 
+-- the values of an option, one for each word that begins with its text
+abbrev pub values : List ℕ → List (List ℕ) → List (List ℕ)
+values name words = filter_map (value_of name) words
+
+-- an option that isn't given has its default, and one that is given twice has no reading
+abbrev pub given : {A : Type 0} → A → (List ℕ → Option A) → List (List ℕ) → Option A
+given default read [] = Some default
+given default read (value ∷ []) = read value
+given default read (first ∷ second ∷ more) = None
+
 -- an option whose value is a number
-abbrev pub number_option : List ℕ → ℕ → List ℕ → Option ℕ
-number_option name most word = option_and_then (number most) (value_of name word)
+abbrev pub number_option : List ℕ → ℕ → ℕ → List (List ℕ) → Option ℕ
+number_option name default most words = given default (number most) (values name words)
 
-abbrev pub both : Option ℕ → Option ℕ → Option Size
-both (Some mebibytes) (Some budget) = Some (record { mebibytes = mebibytes; budget = budget })
-both mebibytes budget = None
+-- the names of harts that `--order=` gives
+abbrev pub order_option : List (List ℕ) → Option (List ℕ)
+order_option words = given [] order (values (codes "--order=") words)
 
--- no options, which leaves 16 MiB and 8,192 ends, or both in this order
-abbrev pub options : List (List ℕ) → Option Size
-options [] = both (Some 16) (Some 8192)
-options (ram ∷ budget ∷ []) = both (number_option (codes "--ram=") 256 ram) (number_option (codes "--budget=") 262144 budget)
-options other = None
+-- a word that begins with the text of one of the options
+abbrev pub is_option : List ℕ → Bool
+is_option word = starts_with nat_eq word (codes "--harts=") || starts_with nat_eq word (codes "--ram=") || starts_with nat_eq word (codes "--budget=") || starts_with nat_eq word (codes "--order=")
+
+-- all harts together make at most 262,144 ends
+abbrev pub reading_of : List ℕ → List ℕ → Option ℕ → Option ℕ → Option ℕ → Option (List ℕ) → Option Reading
+reading_of image trace (Some harts) (Some mebibytes) (Some budget) (Some order) = if nat_le (harts * budget) 262144
+    then Some (record { image = image; trace = trace; harts = harts; ram = mebibyte * mebibytes; budget = budget; order = order }) else None
+reading_of image trace harts mebibytes budget order = None
+
+-- the options in any order: 1 hart, 16 MiB, 8,192 ends and no order where they aren't given
+abbrev pub with_options : List ℕ → List ℕ → List (List ℕ) → Option Reading
+with_options image trace words = reading_of image trace (number_option (codes "--harts=") 1 32 words) (number_option (codes "--ram=") 16 256 words) (number_option (codes "--budget=") 8192 262144 words) (order_option words)
 
 abbrev pub is_solo : List ℕ → List ℕ → List ℕ → Bool
 is_solo command image trace = bytes_eq command (codes "solo") && is_name image && is_name trace
 
-abbrev pub with_size : List ℕ → List ℕ → Size → Reading
-with_size image trace size = record { image = image; trace = trace; ram = mebibyte * size.mebibytes; budget = size.budget }
-
 -- the word `solo`, two names, and the options
 abbrev pub reading : List (List ℕ) → Option Reading
-reading (command ∷ image ∷ trace ∷ rest) = if is_solo command image trace then option_map (with_size image trace) (options rest) else None
+reading (command ∷ image ∷ trace ∷ rest) = if is_solo command image trace && list_all is_option rest then with_options image trace rest else None
 reading other = None
 
 -- a command of the code, as its reading
 abbrev pub shown : Command → Reading
-shown command = record { image = command.image.now; trace = command.trace.now; ram = command.ram; budget = command.budget }
+shown command = record { image = command.image.now; trace = command.trace.now; harts = command.harts; ram = command.ram; budget = command.budget; order = map hart_of command.order.now }
 
--- RAM and budget are within their limits
+-- what the code finds of an option is what its values are
+abbrev pub IsGiven : List (List ℕ) → Given → Type 0
+IsGiven found as_given.Never = found ≡ []
+IsGiven found (as_given.Once value) = found ≡ value.now ∷ []
+IsGiven found as_given.Twice = 2 ≤ length found
+
+-- harts, RAM, budget and order are within their limits
 pub record IsLimited (command : Command) : Type 0 where
+  pub some_hart : 1 ≤ command.harts
+  pub harts : command.harts ≤ 32
+  pub some_ram : mebibyte ≤ command.ram
   pub ram : command.ram ≤ 268435456
+  pub whole : is_multiple command.ram mebibyte ≡ true
+  pub some_budget : 1 ≤ command.budget
   pub budget : command.budget ≤ 262144
+  pub ends : command.harts * command.budget ≤ 262144
+  pub order : length command.order.now ≤ 65536
+  pub names : All (λ character. hart_of character < 32) command.order.now

@@ -39,7 +39,7 @@ pub(crate) enum Step {
 }
 
 impl Player {
-    ghost use Rattle.flex_top.specs.Play.{IsAt, IsStarted, AfterStep, AfterTurn, AfterRound, AfterOrder, KeepsOthers, StepCounts, TurnCounts, RoundCounts, Playing, Played};
+    ghost use Rattle.flex_top.specs.Play.{IsAt, IsStarted, AfterStep, AfterTurn, AfterRound, AfterName, AfterOrder, KeepsOthers, StepCounts, TurnCounts, RoundCounts, Playing, Played};
 
     // The harts at their start, at this entry, over this RAM.
     pub(crate) fn start(
@@ -140,19 +140,32 @@ impl Player {
         Ok(None)
     }
 
-    // The harts that the characters name make their next events. A name without a hart is passed
-    // over.
+    // The hart that the character names makes its next event. A name without a hart is passed over.
+    fn name(&mut self, character: u8) -> Result<Option<u64>, AllocError>
+        requires at { (setup : Setup) × (u : Machine) × IsAt setup u self.old }
+        ensures { IfOk result (λ pc. (setup : Setup) (u : Machine) → IsAt setup u self.old → AfterName setup u (hart_of character) pc self.new) }
+    {
+        let h = hart_named(character) as usize;
+        if h >= self.harts.len() {
+            return Ok(None);
+        }
+        match self.step(h)? {
+            Step::Accessed => Ok(None),
+            Step::Ended => Ok(None),
+            Step::Over => Ok(None),
+            Step::Unbuilt(pc) => Ok(Some(pc)),
+        }
+    }
+
+    // The harts that the characters name make their next events.
     fn follow(&mut self, order: &[u8]) -> Result<Option<u64>, AllocError>
         requires at { (setup : Setup) × IsAt setup (begin setup) self.old }
         ensures { IfOk result (λ pc. (setup : Setup) → IsAt setup (begin setup) self.old → AfterOrder setup (map hart_of order.now) pc self.new) }
     {
         for character in order {
-            let h = hart_named(*character) as usize;
-            if h < self.harts.len() {
-                match self.step(h)? {
-                    Step::Unbuilt(pc) => return Ok(Some(pc)),
-                    _ => {}
-                }
+            match self.name(*character)? {
+                None => {}
+                Some(pc) => return Ok(Some(pc)),
             }
         }
         Ok(None)

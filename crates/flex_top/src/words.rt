@@ -1,6 +1,7 @@
-ghost use Rattle.std.specs.Prelude.{◌≡◌, ◌≤◌, ◌&&◌, map, codes, length, bytes_eq, Some, None, option_map, IfSome, if◌then◌else◌, string_bytes};
+ghost use Rattle.std.specs.Prelude.{◌≡◌, ◌<◌, ◌≤◌, ◌&&◌, List, ℕ, [], ◌∷◌, ◌++◌, map, codes, length, Some, None, All, option_map, IfSome, if◌then◌else◌, string_bytes};
 ghost use Rattle.std.specs.List.{list_all};
-ghost use Rattle.flex_top.specs.Words.{reading, options, both, shown, is_name, is_digit, number_of, number, value_of, number_option, is_solo, with_size, IsLimited};
+ghost use Rattle.flex_base.specs.Limits.{is_within};
+ghost use Rattle.flex_top.specs.Words.{reading, with_options, shown, is_name, is_option, is_digit, number_of, number, hart_of, is_order, order, value_of, values, number_option, order_option, is_solo, IsGiven, IsLimited};
 
 /// What `solo` is asked to do.
 #[derive(Clone, Copy, Debug)]
@@ -9,23 +10,29 @@ pub struct Command<'a> {
     pub image: &'a str,
     /// The name of the file that the trace goes to.
     pub trace: &'a str,
-    /// The size of RAM in bytes, 1 to 256 MiB.
+    /// How many harts there are, 1 to 32.
+    pub harts: u8,
+    /// The size of RAM in bytes, a multiple of 1 MiB, 1 to 256 MiB.
     pub ram: u64,
-    /// How many ends each hart may make, 1 to 262,144.
+    /// How many ends each hart may make; all together make at most 262,144.
     pub budget: u64,
+    /// Which harts make the next events before the rounds: at most 65,536 characters, each of
+    /// which names a hart.
+    pub order: &'a [u8],
 }
 
-// RAM and budget, as the options give them.
+// How often an option is given, and its value where it is given once.
 #[derive(Clone, Copy)]
-pub struct Size {
-    mebibytes: u64,
-    budget: u64,
+pub enum Given<'a> {
+    Never,
+    Once(&'a [u8]),
+    Twice,
 }
 
 const MEBIBYTE: u64 = 1_048_576;
 
-/// The command that these words are: `solo IMAGE TRACE`, and then nothing or
-/// `--ram=MIB --budget=ENDS`. Other words have no reading.
+/// The command that these words are: `solo IMAGE TRACE`, and then any of the options `--harts=`,
+/// `--ram=`, `--budget=` and `--order=`, each at most once. Other words have no reading.
 pub fn read_words(words: &[String]) -> Option<Command<'_>>
     ensures reading { option_map shown result ≡ reading (map string_bytes words.now) }
     ensures limits { IfSome result IsLimited }
@@ -33,28 +40,13 @@ pub fn read_words(words: &[String]) -> Option<Command<'_>>
     match words {
         [command, image, trace, rest @ ..] => {
             let (image, trace) = (image.as_str(), trace.as_str());
-            if is_solo(command.as_str(), image, trace) {
+            if is_solo(command.as_str(), image, trace) && are_options(rest) {
                 with_options(image, trace, rest)
             } else {
                 None
             }
         }
         _ => None,
-    }
-}
-
-fn with_options<'a>(image: &'a str, trace: &'a str, rest: &[String]) -> Option<Command<'a>>
-    ensures reading { option_map shown result ≡ option_map (with_size image.now trace.now) (options (map string_bytes rest.now)) }
-    ensures limits { IfSome result IsLimited }
-{
-    match options(rest) {
-        Some(size) => Some(Command {
-            image,
-            trace,
-            ram: MEBIBYTE * size.mebibytes,
-            budget: size.budget,
-        }),
-        None => None,
     }
 }
 
@@ -73,41 +65,93 @@ fn is_name(word: &str) -> bool
     }
 }
 
-fn options(rest: &[String]) -> Option<Size>
-    ensures size { result ≡ options (map string_bytes rest.now) }
-    ensures limits { IfSome result (λ size. (size.mebibytes ≤ 256) × (size.budget ≤ 262144)) }
+fn are_options(words: &[String]) -> bool
+    ensures { result ≡ list_all is_option (map string_bytes words.now) }
 {
-    match rest {
-        [] => Some(Size {
-            mebibytes: 16,
-            budget: 8192,
-        }),
-        [ram, budget] => both(
-            number_option(b"--ram=", 256, ram.as_bytes()),
-            number_option(b"--budget=", 262_144, budget.as_bytes()),
-        ),
+    for word in words {
+        if !is_option(word.as_bytes()) {
+            return false;
+        }
+    }
+    true
+}
+
+fn is_option(word: &[u8]) -> bool
+    ensures { result ≡ is_option word.now }
+{
+    word.starts_with(b"--harts=")
+        || word.starts_with(b"--ram=")
+        || word.starts_with(b"--budget=")
+        || word.starts_with(b"--order=")
+}
+
+fn with_options<'a>(image: &'a str, trace: &'a str, words: &'a [String]) -> Option<Command<'a>>
+    ensures reading { option_map shown result ≡ with_options image.now trace.now (map string_bytes words.now) }
+    ensures limits { IfSome result IsLimited }
+{
+    let harts = number_option(b"--harts=", 1, 32, words)?;
+    let mebibytes = number_option(b"--ram=", 16, 256, words)?;
+    let budget = number_option(b"--budget=", 8192, 262_144, words)?;
+    let order = order_option(words)?;
+    if harts * budget > 262_144 {
+        return None;
+    }
+    Some(Command {
+        image,
+        trace,
+        harts: harts as u8,
+        ram: MEBIBYTE * mebibytes,
+        budget,
+        order,
+    })
+}
+
+// The value of an option that is a number from 1 up to `most`.
+fn number_option(name: &[u8], default: u64, most: u64, words: &[String]) -> Option<u64>
+    requires default { 1 ≤ default }
+    requires most { default ≤ most }
+    ensures value { result ≡ number_option name.now default most (map string_bytes words.now) }
+    ensures least { IfSome result (λ n. 1 ≤ n) }
+    ensures most { IfSome result (λ n. n ≤ most) }
+{
+    match look_up(name, words) {
+        Given::Never => Some(default),
+        Given::Once(value) => number(most, value),
+        Given::Twice => None,
+    }
+}
+
+// The characters of the option `--order=`, none where it isn't given.
+fn order_option(words: &[String]) -> Option<&[u8]>
+    ensures value { option_map (λ text. map hart_of text.now) result ≡ order_option (map string_bytes words.now) }
+    ensures length { IfSome result (λ text. length text.now ≤ 65536) }
+    ensures names { IfSome result (λ text. All (λ character. hart_of character < 32) text.now) }
+{
+    match look_up(b"--order=", words) {
+        Given::Never => Some(&[]),
+        Given::Once(text) if is_order(text) => Some(text),
         _ => None,
     }
 }
 
-fn both(mebibytes: Option<u64>, budget: Option<u64>) -> Option<Size>
-    ensures size { result ≡ both mebibytes budget }
-    ensures values { IfSome result (λ size. (mebibytes ≡ Some size.mebibytes) × (budget ≡ Some size.budget)) }
+fn look_up<'a>(name: &[u8], words: &'a [String]) -> Given<'a>
+    ensures { IsGiven (values name.now (map string_bytes words.now)) result }
 {
-    Some(Size {
-        mebibytes: mebibytes?,
-        budget: budget?,
-    })
+    let mut given = Given::Never;
+    for word in words {
+        if let Some(value) = value_of(name, word.as_bytes()) {
+            given = once_more(given, value);
+        }
+    }
+    given
 }
 
-// The value of an option `NAME=VALUE` that is a number from 1 up to `most`.
-fn number_option(name: &[u8], most: u64, word: &[u8]) -> Option<u64>
-    ensures value { result ≡ number_option name.now most word.now }
-    ensures limit { IfSome result (λ n. n ≤ most) }
+fn once_more<'a>(given: Given<'a>, value: &'a [u8]) -> Given<'a>
+    ensures { (found : List (List ℕ)) → IsGiven found given.entry → IsGiven (found ++ value.now ∷ []) result }
 {
-    match value_of(name, word) {
-        Some(value) => number(most, value),
-        None => None,
+    match given {
+        Given::Never => Given::Once(value),
+        Given::Once(_) | Given::Twice => Given::Twice,
     }
 }
 
@@ -123,7 +167,8 @@ fn value_of<'a>(name: &[u8], word: &'a [u8]) -> Option<&'a [u8]>
 
 fn number(most: u64, word: &[u8]) -> Option<u64>
     ensures value { result ≡ number most word.now }
-    ensures limit { IfSome result (λ n. n ≤ most) }
+    ensures least { IfSome result (λ n. 1 ≤ n) }
+    ensures most { IfSome result (λ n. n ≤ most) }
 {
     if word.is_empty() || word.len() > 10 {
         return None;
@@ -147,6 +192,33 @@ fn digits_value(word: &[u8]) -> Option<u64>
         value = 10 * value + u64::from(*byte - b'0');
     }
     Some(value)
+}
+
+fn is_order(text: &[u8]) -> bool
+    ensures value { result ≡ is_order text.now }
+{
+    if text.is_empty() || text.len() > 65_536 {
+        return false;
+    }
+    for character in text {
+        if hart_named(*character) >= 32 {
+            return false;
+        }
+    }
+    true
+}
+
+/// The hart that a character names: 0 to 9 by a digit, 10 to 31 by a letter from `a` to `v`. Another
+/// character names none, which is 32.
+#[tactic(auto, using(crate::proofs::WordsLemmas::digit_hart, crate::proofs::WordsLemmas::letter_hart, crate::proofs::WordsLemmas::no_hart_below, crate::proofs::WordsLemmas::no_hart_between, crate::proofs::WordsLemmas::no_hart_above))]
+pub(crate) fn hart_named(character: u8) -> u8
+    ensures { result ≡ hart_of character }
+{
+    match character {
+        b'0'..=b'9' => character - b'0',
+        b'a'..=b'v' => character - b'a' + 10,
+        _ => 32,
+    }
 }
 
 #[cfg(test)]
