@@ -1,5 +1,6 @@
 pub mod WordsLemmas
 pub mod HexDigits
+pub mod Banks
 pub mod Playing
 pub mod Rounds
 pub mod Writing
