@@ -2,6 +2,7 @@
 use Rattle.std.proofs.Common.{◌≡◌, ◌≢◌, ℕ, ◌<◌, Bool, true, false, ◌||◌, ◌&&◌, ◌==◌, if◌then◌else◌, nat_lt, List, [], ◌∷◌, ◌++◌, length, None, Some, inl, inr, refl, ap, sym, subst, ◌∙◌, arith, get_or, set, length-set, get_or-set_same, get_or-set_other}
 use Rattle.std.proofs.lemmas.Bool.{cases_eq}
 use Rattle.std.proofs.lemmas.Bool.Decides.{eqb_tells, nat_tests}
+use Rattle.std.proofs.lemmas.List.{get_or_default}
 use Rattle.std.proofs.lemmas.List.Folds.{list_any-append}
 use Rattle.std.proofs.lemmas.List.Sums.{fold_push}
 use Rattle.flex_base.specs.Setup.{Setup}
@@ -24,6 +25,7 @@ use Rattle.hart_story.specs.declared.hart.Hart.{Hart}
 use Rattle.hart_story.specs.declared.progress.Progress.{Progress}
 use Rattle.hart_story.specs.declared.progress.Progress.TheVariants as progress
 use Rattle.hart_story.proofs.Asking.{asks_unretired}
+use Rattle.mem_lines.specs.Bank.{Bank}
 use Rattle.flex_top.specs.Memory.{Keeps, replayed}
 use Rattle.flex_top.specs.Splitting.{parted_by}
 use Rattle.flex_top.specs.Play.{IsHart, IsAt, progress_at}
@@ -78,6 +80,22 @@ spent_other devices h k access reply other = elim (is_ram_access access) as (λ 
     [ true ↦ refl | false ↦ any_other devices h k access reply other ]
 
 -- One hart.
+
+-- a hart that was read from the player's, whatever stands for one beyond them
+pub hart_read : (harts : List Hart) (h : ℕ) (hart other : Hart) → h < length harts → hart ≡ get_or harts h hart → get_or harts h other ≡ hart
+hart_read harts h hart other within same = get_or_default harts h other hart within ∙ sym same
+
+pub far_read : (player : Player) (h : ℕ) (far : Progress) → h < length player.progress.items → far ≡ get_or player.progress.items h far → progress_at player h ≡ far
+far_read player h far within same = get_or_default player.progress.items h progress.Begun far within ∙ sym same
+
+-- what was read of the player's hart of this number stands for it
+pub in_hart : (setup : Setup) (u : Machine) (player : Player) (h : ℕ) (hart : Hart) (far : Progress) → IsAt setup u player → h < setup.harts → hart ≡ get_or player.harts.items h hart → far ≡ get_or player.progress.items h far
+    → IsIn setup (half_at u h).state (half_at u h).replies hart far player.layout player.budget
+in_hart setup u player h hart far at below same_hart same_far =
+    let in_progress : h < length player.progress.items = omega (arith, below, at.progress) in
+    let AtHart : Hart → Type 0 = λ x. IsIn setup (half_at u h).state (half_at u h).replies x (progress_at player h) player.layout player.budget in
+    let AtFar : Progress → Type 0 = λ x. IsIn setup (half_at u h).state (half_at u h).replies hart x player.layout player.budget in
+    subst AtFar (far_read player h far in_progress same_far) (subst AtHart (sym same_hart) (at.each h hart below).in_story)
 
 -- the same hart, in a state of the machine that has it as it was
 hart_stays : (setup : Setup) (u v : Machine) (h : ℕ) (hart hart' : Hart) (far far' : Progress) (layout : Layout) (budget : ℕ)
@@ -136,7 +154,7 @@ at_access setup u player next h access far below at asks built hart same_layout 
     let v = makes u h access reply in
     let first : Hart → Hart = λ (other : Hart). get_or player.harts.items h other in
     let busy = λ (other : Hart). asks_unretired setup (half_at u h).state (progress_at player h) (half_at u h).replies access (at.each h other below).in_story.reached asks in
-    let far_here : progress_at next h ≡ far = ap (λ (xs : List Progress). get_or xs h progress.Begun) fars ∙ get_or-set_same player.progress.items h progress.Begun in_progress in
+    let far_here : progress_at next h ≡ far = ap (λ (xs : List Progress). get_or xs h progress.Begun) fars ∙ get_or-set_same player.progress.items h far progress.Begun in_progress in
     let here = λ (other : Hart).
         hart_moves setup v h after (first other) (get_or next.harts.items h other) far (progress_at next h) next.layout next.budget
         (half-set u h after v.harts (half_of (start h 0)) within refl)
@@ -169,27 +187,27 @@ at_access setup u player next h access far below at asks built hart same_layout 
 
 -- The player after an end.
 
-pub at_end : (setup : Setup) (u : Machine) (player next : Player) (h : ℕ) (made : EndPart) (after : State) (hart : Hart) → h < setup.harts → IsAt setup u player → want_of setup u h ≡ Ends made after
-    → IsIn setup after [] hart progress.Begun next.layout next.budget
+pub at_end : (setup : Setup) (u : Machine) (player next : Player) (h : ℕ) (made : EndPart) (after : State) (hart : Hart) (far : Progress) → h < setup.harts → IsAt setup u player → want_of setup u h ≡ Ends made after
+    → IsIn setup after [] hart far next.layout next.budget → far ≡ progress.Begun
     → next.layout ≡ player.layout → next.budget ≡ player.budget
     → is_retired (progress_at player h) ≡ false
-    → next.harts.items ≡ set player.harts.items h hart → next.progress.items ≡ set player.progress.items h progress.Begun
+    → next.harts.items ≡ set player.harts.items h hart → next.progress.items ≡ set player.progress.items h far
     → next.lines ≡ player.lines
     → length next.run.engines.items ≡ length player.run.engines.items
     → parted_by next.run ≡ part default_plan (parted_by player.run) (does h (what.End made))
     → IsAt setup (step setup u h) next
-at_end setup u player next h made after hart below at ends there_in same_layout same_budget before harts fars lines engines run =
+at_end setup u player next h made after hart far below at ends there_in begun same_layout same_budget before harts fars lines engines run =
     let within : h < length u.harts = omega (arith, below, at.halves) in
     let in_progress : h < length player.progress.items = omega (arith, below, at.progress) in
     let in_harts : h < length player.harts.items = omega (arith, below, at.harts) in
     let v = make setup u h (Ends made after) in
-    let far_here : progress_at next h ≡ progress.Begun = ap (λ (xs : List Progress). get_or xs h progress.Begun) fars ∙ get_or-set_same player.progress.items h progress.Begun in_progress in
+    let far_here : progress_at next h ≡ far = ap (λ (xs : List Progress). get_or xs h progress.Begun) fars ∙ get_or-set_same player.progress.items h far progress.Begun in_progress in
     let here = λ (other : Hart).
-        hart_moves setup v h (half_of after) hart (get_or next.harts.items h other) progress.Begun (progress_at next h) next.layout next.budget
+        hart_moves setup v h (half_of after) hart (get_or next.harts.items h other) far (progress_at next h) next.layout next.budget
         (half-set u h (half_of after) v.harts (half_of (start h 0)) within refl)
-        (ap (λ (xs : List Hart). get_or xs h other) harts ∙ get_or-set_same player.harts.items h other in_harts)
+        (ap (λ (xs : List Hart). get_or xs h other) harts ∙ get_or-set_same player.harts.items h hart other in_harts)
         far_here
-        ((at.each h other below).spent ∙ before)
+        ((at.each h other below).spent ∙ before ∙ sym (ap is_retired begun))
         there_in in
     let there = λ (k : ℕ) (other : Hart) (apart : k ≢ h) (inside : k < setup.harts).
         let InLayout : Layout → Type 0 = λ l. IsHart setup v k (get_or next.harts.items k other) (progress_at next k) l next.budget in
@@ -199,7 +217,7 @@ at_end setup u player next h made after hart below at ends there_in same_layout 
         (get_or-set_other u.harts h k (half_of after) (half_of (start k 0)) apart)
         refl
         (ap (λ (xs : List Hart). get_or xs k other) harts ∙ get_or-set_other player.harts.items h k hart other apart)
-        (ap (λ (xs : List Progress). get_or xs k progress.Begun) fars ∙ get_or-set_other player.progress.items h k progress.Begun progress.Begun apart)
+        (ap (λ (xs : List Progress). get_or xs k progress.Begun) fars ∙ get_or-set_other player.progress.items h k far progress.Begun apart)
         (at.each k other inside))) in
     let At : Machine → Type 0 = λ m. IsAt setup m next in
     subst At (sym (step_is setup u h (Ends made after) below ends)) (record {
@@ -207,11 +225,11 @@ at_end setup u player next h made after hart below at ends there_in same_layout 
       few = at.few;
       halves = length-set u.harts h (half_of after) ∙ at.halves;
       harts = ap (λ (xs : List Hart). length xs) harts ∙ length-set player.harts.items h hart ∙ at.harts;
-      progress = ap (λ (xs : List Progress). length xs) fars ∙ length-set player.progress.items h progress.Begun ∙ at.progress;
+      progress = ap (λ (xs : List Progress). length xs) fars ∙ length-set player.progress.items h far ∙ at.progress;
       engines = engines ∙ at.engines;
       each = each_by setup v next next.layout next.budget h here there;
       run = parted_push default_plan setup.harts u.events (does h (what.End made)) ∙ ap (λ p. part default_plan p (does h (what.End made))) at.run ∙ sym run;
-      memory = let Keeping = λ (bank : _). Keeps setup u.ram bank in subst Keeping (sym lines) at.memory;
+      memory = let Keeping : Bank → Type 0 = λ bank. Keeps setup u.ram bank in subst Keeping (sym lines) at.memory;
     })
 
 -- a hart that is over stays where it is
