@@ -170,8 +170,15 @@ playing_as setup order player a b same playing =
     subst Rest same playing
 
 -- the order is followed, and all rounds are to come
-pub playing_rounds : (setup : Setup) (order : List ℕ) (player : Player) → IsReached setup order player → Playing setup order player (repeated (most_rounds setup) (hart_numbers setup))
-playing_rounds setup order player reached = record { names = order; at = reached.at; order_is = refl; built = reached.built }
+pub playing_rounds : (setup : Setup) (order : List ℕ) (player : Player) → IsReached setup order player → Playing setup order player (repeated (most_rounds setup - 0) (hart_numbers setup))
+playing_rounds setup order player reached =
+    let all : most_rounds setup ≡ most_rounds setup - 0 = omega arith in
+    record {
+      names = order;
+      at = reached.at;
+      order_is = ap (λ n. order ++ turns setup (reach setup order) (repeated n (hart_numbers setup))) all;
+      built = reached.built;
+    }
 
 pub played_stuck : (setup : Setup) (order : List ℕ) (pc : ℕ) → first_unbuilt setup (begin setup) order ≡ Some pc → first_unbuilt setup (begin setup) (played setup order) ≡ Some pc
 played_stuck setup order pc stuck =
