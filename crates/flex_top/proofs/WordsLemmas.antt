@@ -1,10 +1,11 @@
 -- What has no reading, by how many words there are, and which hart a character names.
-use Rattle.std.proofs.Common.{◌≡◌, ◌==◌, ℕ, ◌+◌, ◌-◌, ◌<◌, ◌≤◌, Bool, true, false, List, [], ◌∷◌, length, None, refl, ap, ◌∙◌, arith}
-use Rattle.std.specs.List.{list_all, range_with_len}
+use Rattle.std.proofs.Common.{◌≡◌, ◌==◌, ℕ, ◌+◌, ◌-◌, ◌<◌, ◌≤◌, Bool, true, false, List, [], ◌∷◌, ◌++◌, length, None, Some, refl, ap, ◌∙◌, append-nil, arith}
+use Rattle.std.specs.List.{list_all, range_with_len, cons_option}
 use Rattle.std.proofs.lemmas.Bool.{eqb-true}
 use Rattle.std.proofs.lemmas.List.Folds.{list_all_at}
 use Rattle.std.proofs.lemmas.List.FromFn.{length-range_with_len, get_or-range_with_len}
-use Rattle.flex_top.specs.Words.{reading, hart_of}
+use Rattle.std.proofs.lemmas.List.Elements.{filter_map-append}
+use Rattle.flex_top.specs.Words.{reading, hart_of, value_of, values}
 
 pub reading_short : (ws : List (List ℕ)) → length ws < 3 → reading ws ≡ None
 reading_short [] few = refl
@@ -20,10 +21,11 @@ each_within test a n all c low high =
     let whole : a + (c - a) ≡ c = omega arith in
     let here = get_or-range_with_len a n (c - a) 0 inside ∙ whole in
     elim (test c) as (λ b. test c ≡ b → b ≡ true) [
-      true ↦ λ _. refl
-    | false ↦ λ fails. absurd (let none = list_all_at test (range_with_len a n) (c - a) 0 within (ap test here ∙ fails) in cc)
+      | true ↦ λ _. refl
+      | false ↦ λ fails. absurd (let none = list_all_at test (range_with_len a n) (c - a) 0 within (ap test here ∙ fails) in cc)
     ] refl
 
+-- which hart each byte names, by a test of every byte
 digits_named : list_all (λ c. hart_of c == c - 48) (range_with_len 48 10) ≡ true
 unfolding hart_of
 digits_named = refl
@@ -58,3 +60,12 @@ no_hart_between c low high = eqb-true (hart_of c) 32 (each_within (λ c. hart_of
 
 pub no_hart_above : (c : ℕ) → 118 < c → c < 256 → hart_of c ≡ 32
 no_hart_above c low high = eqb-true (hart_of c) 32 (each_within (λ c. hart_of c == 32) 119 137 above_named c (omega arith) (omega arith))
+
+pub ruleset harts_named = (digit_hart, letter_hart, no_hart_below, no_hart_between, no_hart_above)
+
+-- the values so far, with those of one more word
+pub values_none : (name : List ℕ) (words : List (List ℕ)) (word : List ℕ) → value_of name word ≡ None → values name (words ++ word ∷ []) ≡ values name words
+values_none name words word e = filter_map-append (value_of name) words (word ∷ []) ∙ ap (λ v. values name words ++ cons_option v []) e ∙ append-nil (values name words)
+
+pub values_some : (name : List ℕ) (words : List (List ℕ)) (word value : List ℕ) → value_of name word ≡ Some value → values name (words ++ word ∷ []) ≡ values name words ++ value ∷ []
+values_some name words word value e = filter_map-append (value_of name) words (word ∷ []) ∙ ap (λ v. values name words ++ cons_option v []) e

@@ -1,5 +1,5 @@
 -- The words of the command line, as a grammar. A part that doesn't read makes the whole unreadable.
-use Rattle.std.specs.Prelude.{◌≡◌, ℕ, ◌+◌, ◌-◌, ◌*◌, ◌<◌, ◌≤◌, Bool, true, false, not, ◌&&◌, ◌||◌, ◌==◌, nat_le, nat_lt, if◌then◌else◌, List, [], ◌∷◌, length, drop, map, fold, All, codes, nat_eq, bytes_eq, Option, None, Some, option_and_then}
+use Rattle.std.specs.Prelude.{◌≡◌, ℕ, ◌+◌, ◌-◌, ◌*◌, ◌<◌, ◌≤◌, Bool, true, false, not, ◌&&◌, ◌||◌, ◌==◌, nat_le, nat_lt, if◌then◌else◌, List, [], ◌∷◌, length, drop, map, fold, All, codes, nat_eq, bytes_eq, Option, None, Some}
 use Rattle.std.specs.List.{list_all, filter_map, position_or_len, starts_with}
 use Rattle.flex_base.specs.Limits.{is_within, mebibyte}
 use Rattle.flex_base.specs.Word.{is_multiple}
