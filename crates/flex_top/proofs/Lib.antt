@@ -4,6 +4,7 @@ pub mod Banks
 pub mod Playing
 pub mod Rounds
 pub mod Writing
+pub mod Starting
 pub mod Growth
 pub mod ShownLists
 pub mod WholeText

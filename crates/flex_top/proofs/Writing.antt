@@ -17,6 +17,7 @@ use Rattle.flex_base.specs.declared.settings.Settings.{Settings}
 use Rattle.flex_base.proofs.Orders.{reach-order_of, split_legal, split_obeys}
 use Rattle.flex_base.proofs.Turns.{stop_ended}
 use Rattle.flex_base.proofs.Quiet.{console_built}
+use Rattle.hart_story.specs.declared.hart.Hart.{Hart}
 use Rattle.flex_top.specs.Answer.{journal_of, trace_of, IsWhole}
 use Rattle.flex_top.specs.Play.{IsAt, HasPlayed}
 use Rattle.flex_top.specs.TailText.{whole_text}
@@ -54,36 +55,31 @@ abbrev pub state_of : Setup → List ℕ → ℕ → State
 state_of setup order h = (half_at (reach setup (played setup order)) h).state
 
 -- the trace of the run, as it is written
-pub trace_is : (setup : Setup) (order : List ℕ) (player : Player) (harts ram : ℕ) (bytes : List ℕ) → HasPlayed setup order player → harts ≡ setup.harts → ram ≡ setup.ram → bytes ≡ ram_bytes setup (reach setup (played setup order))
-    → trace_of setup order ≡ whole_text (sized harts ram player.budget) player.run.events.items (Some stop.Budget) harts (state_of setup order) bytes
+pub trace_is : (setup : Setup) (order : List ℕ) (player : Player) (harts ram count : ℕ) (events : List Event) (bytes : List ℕ) → HasPlayed setup order player
+    → harts ≡ setup.harts → ram ≡ setup.ram → count ≡ setup.harts → events ≡ player.run.events.items → bytes ≡ ram_bytes setup (reach setup (played setup order))
+    → trace_of setup order ≡ whole_text (sized harts ram player.budget) events (Some stop.Budget) count (state_of setup order) bytes
 unfolding trace_of
-trace_is setup order player harts ram bytes done same_harts same_ram same_bytes =
+trace_is setup order player harts ram count events bytes done same_harts same_ram same_count same_events same_bytes =
     let u = reach setup (played setup order) in
     let journal = journal_of setup order in
     trace_text-whole setup journal
     ∙ ap (λ m. whole_text (settings_of setup) journal (stop_of setup m) setup.harts (λ h. (half_at m h).state) (ram_bytes setup m)) (order_leads setup order)
     ∙ ap (λ o. whole_text (settings_of setup) journal o setup.harts (state_of setup order) (ram_bytes setup u)) (stop_ended setup u done.ended)
-    ∙ ap (λ n. whole_text (settings_of setup) journal (Some stop.Budget) n (state_of setup order) (ram_bytes setup u)) (sym same_harts)
-    ∙ ap (whole_text (settings_of setup) journal (Some stop.Budget) harts (state_of setup order)) (sym same_bytes)
-    ∙ ap (λ s. whole_text s journal (Some stop.Budget) harts (state_of setup order) bytes) (settings_are setup order player harts ram done same_harts same_ram)
-    ∙ ap (λ events. whole_text (sized harts ram player.budget) events (Some stop.Budget) harts (state_of setup order) bytes) (events_are setup order player done)
+    ∙ ap (λ n. whole_text (settings_of setup) journal (Some stop.Budget) n (state_of setup order) (ram_bytes setup u)) (sym same_count)
+    ∙ ap (whole_text (settings_of setup) journal (Some stop.Budget) count (state_of setup order)) (sym same_bytes)
+    ∙ ap (λ s. whole_text s journal (Some stop.Budget) count (state_of setup order) bytes) (settings_are setup order player harts ram done same_harts same_ram)
+    ∙ ap (λ es. whole_text (sized harts ram player.budget) es (Some stop.Budget) count (state_of setup order) bytes) (events_are setup order player done ∙ sym same_events)
 
 -- each hart stands for its state at the end
-pub all_stand : (setup : Setup) (order : List ℕ) (player : Player) → HasPlayed setup order player → AllStand player.harts.items (state_of setup order)
-all_stand setup order player done = λ h other below. (done.at.each h other (omega (arith, below, done.at.harts))).in_story.stands
+pub all_stand : (setup : Setup) (order : List ℕ) (player : Player) (harts : List Hart) → HasPlayed setup order player → harts ≡ player.harts.items → AllStand harts (state_of setup order)
+all_stand setup order player harts done same =
+    let Stand : List Hart → Type 0 = λ xs. AllStand xs (state_of setup order) in
+    subst Stand (sym same) (λ h other below. (done.at.each h other (omega (arith, below, done.at.harts))).in_story.stands)
 
 -- the bytes of RAM at the end, as the bank's contract says them
 pub ram_is : (setup : Setup) (order : List ℕ) (bytes : List ℕ) → bytes ≡ map (λ i. byte setup.image (reach setup (played setup order)).ram (ram_base + i)) (range_with_len 0 setup.ram) → bytes ≡ ram_bytes setup (reach setup (played setup order))
 unfolding ram_bytes
 ram_is setup order bytes same = same
-
--- The start.
-
--- each hart of the machine begins at the entry
-pub half_at-begin : (setup : Setup) (h : ℕ) → h < setup.harts → half_at (begin setup) h ≡ half_of (start h setup.image.entry)
-half_at-begin setup h below =
-    let from : 0 + h ≡ h = omega arith in
-    get_or-map-range_with_len (λ k. half_of (start k setup.image.entry)) 0 setup.harts h h (half_of (start h 0)) below from
 
 pub run_whole : (setup : Setup) (order : List ℕ) (player : Player) → HasPlayed setup order player → IsWhole setup order
 unfolding journal_of
