@@ -5,11 +5,11 @@ use Rattle.flex_base.specs.Loaded.{Loaded}
 use Rattle.flex_base.specs.Setup.{Setup}
 use Rattle.flex_base.specs.Classes.{default_plan}
 use Rattle.flex_base.specs.Unsplit.{begin, unsplit, reach, has_ended}
+use Rattle.flex_base.specs.Rounds.{played}
 use Rattle.flex_base.specs.Built.{first_unbuilt}
 use Rattle.flex_base.specs.Split.{split}
 use Rattle.flex_base.specs.Journal.{IsLegal, Obeys, order_of}
 use Rattle.flex_base.specs.declared.event.Event.{Event}
-use Rattle.flex_top.specs.Play.{solo_order}
 use Rattle.flex_top.specs.Trace.{trace_text}
 use Rattle.flex_top.specs.declared.status.Status.{Status}
 use Rattle.flex_top.specs.declared.status.Status.TheVariants as status
@@ -19,9 +19,9 @@ use Rattle.flex_top.specs.declared.status.ImageFault.TheVariants as image
 abbrev pub raw : List ℕ → Loaded
 raw file = record { entry = ram_base; parts = (ram_base, file) ∷ [] }
 
--- a run of one hart
-abbrev pub setup_of : List ℕ → ℕ → ℕ → Setup
-setup_of file ram budget = record { image = raw file; harts = 1; ram = ram; budget = budget }
+-- a run of a raw file: so many harts, so much RAM in bytes, and so many ends of each hart
+abbrev pub setup_of : List ℕ → ℕ → ℕ → ℕ → Setup
+setup_of file harts ram budget = record { image = raw file; harts = harts; ram = ram; budget = budget }
 
 -- the file begins with the bytes 7f 45 4c 46
 abbrev pub is_elf : List ℕ → Bool
@@ -33,20 +33,21 @@ abbrev pub answer_of_run : Option ℕ → Status
 answer_of_run None = status.Ended
 answer_of_run (Some pc) = status.Unbuilt (Some pc)
 
-abbrev pub answer_of_setup : Setup → Status
-answer_of_setup setup = answer_of_run (first_unbuilt setup (begin setup) (solo_order setup))
+-- the run takes the harts in this order, and then in rounds
+abbrev pub answer_of_setup : Setup → List ℕ → Status
+answer_of_setup setup order = answer_of_run (first_unbuilt setup (begin setup) (played setup order))
 
 -- a file that can be taken: what isn't built of images, a raw file that is longer than RAM, or the run
-abbrev pub answer_of_file : List ℕ → ℕ → ℕ → Status
-answer_of_file file ram budget = if is_elf file then status.Unbuilt None
-    else (if nat_lt ram (length file) then status.ImageRefused (image.SegmentOutsideRam 0) else answer_of_setup (setup_of file ram budget))
+abbrev pub answer_of_file : List ℕ → ℕ → ℕ → ℕ → List ℕ → Status
+answer_of_file file harts ram budget order = if is_elf file then status.Unbuilt None
+    else (if nat_lt ram (length file) then status.ImageRefused (image.SegmentOutsideRam 0) else answer_of_setup (setup_of file harts ram budget) order)
 
 -- an image file has at most 256 MiB
 abbrev pub image_limit : ℕ
 image_limit = 268435456
 
-abbrev pub expected : List ℕ → ℕ → ℕ → Status
-expected file ram budget = if nat_lt image_limit (length file) then status.ImageRefused (image.TooLong (length file)) else answer_of_file file ram budget
+abbrev pub expected : List ℕ → ℕ → ℕ → ℕ → List ℕ → Status
+expected file harts ram budget order = if nat_lt image_limit (length file) then status.ImageRefused (image.TooLong (length file)) else answer_of_file file harts ram budget order
 
 -- the answer is the expected one, unless a fault of the outside or want of memory came before
 abbrev pub IsAnswer : Status → Status → Type 0
@@ -64,19 +65,19 @@ abbrev pub IsEnded : Status → Type 0
 IsEnded answer = (answer ≡ status.Ended) ⊎ (answer ≡ status.OutOfMemory)
 
 -- the answer for an image of this name, if there is one
-abbrev pub Answers : Option (List ℕ) → ℕ → ℕ → Status → Type 0
-Answers None ram budget answer = answer ≡ status.ReadFault
-Answers (Some file) ram budget answer = IsAnswer (expected file ram budget) answer
+abbrev pub Answers : Option (List ℕ) → ℕ → ℕ → ℕ → List ℕ → Status → Type 0
+Answers None harts ram budget order answer = answer ≡ status.ReadFault
+Answers (Some file) harts ram budget order answer = IsAnswer (expected file harts ram budget order) answer
 
--- the journal of the run: what the unsplit machine does in the rounds, split by the default plan
-unfoldable pub journal_of : Setup → List Event
-journal_of setup = split default_plan setup.harts (unsplit setup (solo_order setup))
+-- the journal of the run: what the unsplit machine does in the order and then in the rounds, split by the default plan
+unfoldable pub journal_of : Setup → List ℕ → List Event
+journal_of setup order = split default_plan setup.harts (unsplit setup (played setup order))
 
-unfoldable pub trace_of : Setup → List ℕ
-trace_of setup = trace_text setup (journal_of setup)
+unfoldable pub trace_of : Setup → List ℕ → List ℕ
+trace_of setup order = trace_text setup (journal_of setup order)
 
 -- the journal is that of a legal run that obeys the default plan and has ended
-pub record IsWhole (setup : Setup) : Type 0 where
-  pub legal : IsLegal setup (journal_of setup)
-  pub obeys : Obeys default_plan setup.harts (journal_of setup)
-  pub ended : has_ended setup (reach setup (order_of (journal_of setup))) ≡ true
+pub record IsWhole (setup : Setup) (order : List ℕ) : Type 0 where
+  pub legal : IsLegal setup (journal_of setup order)
+  pub obeys : Obeys default_plan setup.harts (journal_of setup order)
+  pub ended : has_ended setup (reach setup (order_of (journal_of setup order))) ≡ true

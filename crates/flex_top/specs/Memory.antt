@@ -1,17 +1,21 @@
--- What the bytes of RAM stand for.
-use Rattle.std.specs.Prelude.{◌≡◌, ℕ, ◌+◌, ◌<◌, if◌then◌else◌, List, length, slice_index}
-use Rattle.flex_base.specs.Place.{ram_base}
+-- The accesses of RAM that one bank of all RAM stands for.
+use Rattle.std.specs.Prelude.{◌≡◌, ℕ, if◌then◌else◌, List}
 use Rattle.flex_base.specs.Setup.{Setup}
-use Rattle.flex_base.specs.FlatMemory.{Done, is_ram_access, byte}
+use Rattle.flex_base.specs.FlatMemory.{Done, is_ram_access}
 use Rattle.flex_base.specs.Unsplit.{noted}
 use Rattle.flex_base.specs.declared.access.Access.{Access}
 use Rattle.flex_base.specs.declared.access.Reply.{Reply}
-
--- the bytes are all of RAM, as the accesses so far have left it
-pub record IsReplay (setup : Setup) (memory : List ℕ) (made : List Done) : Type 0 where
-  pub whole : length memory ≡ setup.ram
-  pub each : (i : ℕ) → i < setup.ram → slice_index memory i ≡ byte setup.image made (ram_base + i)
+use Rattle.mem_lines.specs.Bank.{Bank, IsBank, IsReplay}
 
 -- the accesses of RAM after one more access, which may be a device's
 abbrev pub replayed : List Done → ℕ → Access → Reply → List Done
 replayed made h access reply = if is_ram_access access then noted made h access reply else made
+
+-- the one bank of this RAM
+abbrev pub IsAlone : ℕ → Bank → Type 0
+IsAlone ram bank = IsBank ram 1 0 bank
+
+-- the one bank holds all of RAM, as the accesses so far have left it
+pub record Keeps (setup : Setup) (made : List Done) (bank : Bank) : Type 0 where
+  pub alone : IsAlone setup.ram bank
+  pub replay : IsReplay setup made bank

@@ -1,102 +1,170 @@
--- The player of one hart, and the unsplit machine that it plays.
-use Rattle.std.specs.Prelude.{◌≡◌, ℕ, ◌+◌, ◌<◌, true, List, [], ◌∷◌, length, Option, None, Some}
+-- The player of the harts, and the unsplit machine that it plays.
+use Rattle.std.specs.Prelude.{◌≡◌, ◌≢◌, ℕ, ◌+◌, ◌<◌, ◌≤◌, true, false, List, [], ◌∷◌, ◌++◌, length, slice_index_or, Option, None, Some}
 use Rattle.flex_base.specs.Setup.{Setup}
 use Rattle.flex_base.specs.State.{start}
 use Rattle.flex_base.specs.Classes.{default_plan}
-use Rattle.flex_base.specs.Unsplit.{Machine, half_at, begin, step, reach, reach_from, is_spent, has_ended}
-use Rattle.flex_base.specs.Rounds.{turn_of, played}
+use Rattle.flex_base.specs.Unsplit.{Machine, half_at, begin, step, reach, reach_from, hart_numbers, is_spent, has_ended}
+use Rattle.flex_base.specs.Rounds.{turn_of, turns, played}
 use Rattle.flex_base.specs.Built.{unbuilt_at, first_unbuilt}
 use Rattle.flex_base.specs.Split.{parted, unparted}
 use Rattle.flex_base.specs.declared.settings.Layout.{Layout}
 use Rattle.hart_story.specs.StandsFor.{StandsFor}
 use Rattle.hart_story.specs.Progressing.{IsIn, is_retired, left}
+use Rattle.hart_story.specs.declared.hart.Hart.{Hart}
+use Rattle.hart_story.specs.declared.progress.Progress.{Progress}
 use Rattle.hart_story.specs.declared.progress.Progress.TheVariants as progress
-use Rattle.flex_top.specs.Memory.{IsReplay}
+use Rattle.mem_lines.specs.Bank.{Bank}
+use Rattle.flex_top.specs.Memory.{Keeps}
 use Rattle.flex_top.specs.Splitting.{parted_by}
 use Rattle.flex_top.specs.declared.player.Player.{Player}
 use Rattle.flex_top.specs.declared.player.Step.{Step}
 use Rattle.flex_top.specs.declared.player.Step.TheVariants as step_of
-use Rattle.flex_top.specs.declared.player.Turn.{Turn}
-use Rattle.flex_top.specs.declared.player.Turn.TheVariants as turn
 
--- the player and all bytes of RAM stand for this state of the machine
-pub record IsAt (setup : Setup) (u : Machine) (player : Player) (memory : List ℕ) : Type 0 where
-  pub alone : setup.harts ≡ 1
-  pub harts : length u.harts ≡ 1
-  pub hart : IsIn setup (half_at u 0).state (half_at u 0).replies player.hart player.progress player.layout player.budget
-  pub run : parted default_plan 1 u.events ≡ parted_by player.run
-  pub spent : is_spent u.devices 0 ≡ is_retired player.progress
-  pub replay : IsReplay setup memory u.ram
+-- how many instructions and traps of a hart have ended
+abbrev pub ends_of : Hart → ℕ
+ends_of hart = hart.regs.ends
 
--- the next event was an access, and the turn goes on
-pub record Accesses (setup : Setup) (u : Machine) (player : Player) (memory : List ℕ) : Type 0 where
-  pub at : IsAt setup (step setup u 0) player memory
-  pub built : unbuilt_at setup u 0 ≡ None
-  pub names : turn_of setup u 0 ≡ 0 ∷ turn_of setup (step setup u 0) 0
+-- how far the hart of this number is in its instruction
+abbrev pub progress_at : Player → ℕ → Progress
+progress_at player h = slice_index_or player.progress.items h progress.Begun
 
--- the next event was an end, and so is the turn
-pub record Finishes (setup : Setup) (u : Machine) (player : Player) (memory : List ℕ) : Type 0 where
-  pub at : IsAt setup (step setup u 0) player memory
-  pub built : unbuilt_at setup u 0 ≡ None
-  pub names : turn_of setup u 0 ≡ 0 ∷ []
+-- a hart and its progress stand for the hart of this number
+pub record IsHart (setup : Setup) (u : Machine) (h : ℕ) (hart : Hart) (progress : Progress) (layout : Layout) (budget : ℕ) : Type 0 where
+  pub in_story : IsIn setup (half_at u h).state (half_at u h).replies hart progress layout budget
+  pub spent : is_spent u.devices h ≡ is_retired progress
 
--- there is no next event, and the run has ended
-pub record IsDone (setup : Setup) (u : Machine) (player : Player) (memory : List ℕ) : Type 0 where
-  pub at : IsAt setup u player memory
-  pub names : turn_of setup u 0 ≡ []
-  pub ended : has_ended setup u ≡ true
+-- the player stands for this state of the machine
+pub record IsAt (setup : Setup) (u : Machine) (player : Player) : Type 0 where
+  pub some : 0 < setup.harts
+  pub few : setup.harts ≤ 32
+  pub halves : length u.harts ≡ setup.harts
+  pub harts : length player.harts.items ≡ setup.harts
+  pub progress : length player.progress.items ≡ setup.harts
+  pub engines : length player.run.engines.items ≡ setup.harts
+  pub each : (h : ℕ) (other : Hart) → h < setup.harts → IsHart setup u h (slice_index_or player.harts.items h other) (progress_at player h) player.layout player.budget
+  pub run : parted default_plan setup.harts u.events ≡ parted_by player.run
+  pub memory : Keeps setup u.ram player.lines
+
+-- the hart's next event, where it has one, was made, and it is built
+pub record IsStepped (setup : Setup) (u : Machine) (h : ℕ) (player : Player) : Type 0 where
+  pub at : IsAt setup (step setup u h) player
+  pub built : unbuilt_at setup u h ≡ None
+
+-- the event was an access, and the turn goes on
+pub record Accesses (setup : Setup) (u : Machine) (h : ℕ) (player : Player) : Type 0 where
+  pub stepped : IsStepped setup u h player
+  pub names : turn_of setup u h ≡ h ∷ turn_of setup (step setup u h) h
+
+-- the event was an end, and so is the turn
+pub record Finishes (setup : Setup) (u : Machine) (h : ℕ) (player : Player) : Type 0 where
+  pub stepped : IsStepped setup u h player
+  pub names : turn_of setup u h ≡ h ∷ []
+
+-- there was no event
+pub record IsDone (setup : Setup) (u : Machine) (h : ℕ) (player : Player) : Type 0 where
+  pub stepped : IsStepped setup u h player
+  pub still : step setup u h ≡ u
+  pub names : turn_of setup u h ≡ []
 
 -- the next event, at this pc, isn't built
-pub record IsStuck (setup : Setup) (u : Machine) (pc : ℕ) : Type 0 where
-  pub unbuilt : unbuilt_at setup u 0 ≡ Some pc
+pub record IsStuck (setup : Setup) (u : Machine) (h pc : ℕ) : Type 0 where
+  pub unbuilt : unbuilt_at setup u h ≡ Some pc
   pub rest : List ℕ
-  pub names : turn_of setup u 0 ≡ 0 ∷ rest
+  pub names : turn_of setup u h ≡ h ∷ rest
 
-abbrev pub AfterStep : Setup → Machine → Step → Player → List ℕ → Type 0
-AfterStep setup u step_of.Accessed player memory = Accesses setup u player memory
-AfterStep setup u step_of.Ended player memory = Finishes setup u player memory
-AfterStep setup u step_of.Over player memory = IsDone setup u player memory
-AfterStep setup u (step_of.Unbuilt pc) player memory = IsStuck setup u pc
+abbrev pub AfterStep : Setup → Machine → ℕ → Step → Player → Type 0
+AfterStep setup u h step_of.Accessed player = Accesses setup u h player
+AfterStep setup u h step_of.Ended player = Finishes setup u h player
+AfterStep setup u h step_of.Over player = IsDone setup u h player
+AfterStep setup u h (step_of.Unbuilt pc) player = IsStuck setup u h pc
 
 -- the turn was made, and all of it is built
-pub record IsTurned (setup : Setup) (u : Machine) (player : Player) (memory : List ℕ) : Type 0 where
-  pub at : IsAt setup (reach_from setup u (turn_of setup u 0)) player memory
-  pub built : first_unbuilt setup u (turn_of setup u 0) ≡ None
+pub record IsTurned (setup : Setup) (u : Machine) (h : ℕ) (player : Player) : Type 0 where
+  pub at : IsAt setup (reach_from setup u (turn_of setup u h)) player
+  pub built : first_unbuilt setup u (turn_of setup u h) ≡ None
 
-abbrev pub AfterTurn : Setup → Machine → Turn → Player → List ℕ → Type 0
-AfterTurn setup u turn.Ended player memory = IsTurned setup u player memory
-AfterTurn setup u turn.Over player memory = IsTurned setup u player memory × (has_ended setup (reach_from setup u (turn_of setup u 0)) ≡ true)
-AfterTurn setup u (turn.Unbuilt pc) player memory = first_unbuilt setup u (turn_of setup u 0) ≡ Some pc
+-- after a turn, or at the pc of its first event that isn't built
+abbrev pub AfterTurn : Setup → Machine → ℕ → Option ℕ → Player → Type 0
+AfterTurn setup u h None player = IsTurned setup u h player
+AfterTurn setup u h (Some pc) player = first_unbuilt setup u (turn_of setup u h) ≡ Some pc
 
--- a step brings the end of its instruction nearer, or counts it
-abbrev pub StepCounts : Step → Player → Player → Type 0
-StepCounts step_of.Accessed old new = (new.hart.ends ≡ old.hart.ends) × (left new.progress < left old.progress)
-StepCounts step_of.Ended old new = (new.hart.ends ≡ old.hart.ends + 1) × (new.progress ≡ progress.Begun)
-StepCounts other old new = Unit {0}
+-- the other harts stay as they were
+pub record KeepsOthers (h : ℕ) (old new : Player) : Type 0 where
+  pub size : length new.harts.items ≡ length old.harts.items
+  pub harts : (k : ℕ) (other : Hart) → k ≢ h → slice_index_or new.harts.items k other ≡ slice_index_or old.harts.items k other
+  pub progress : (k : ℕ) → k ≢ h → progress_at new k ≡ progress_at old k
 
-abbrev pub TurnCounts : Turn → Player → Player → Type 0
-TurnCounts turn.Ended old new = (new.hart.ends ≡ old.hart.ends + 1) × (new.progress ≡ progress.Begun)
-TurnCounts other old new = Unit {0}
+-- the hart of this number has made so many ends, or has retired
+abbrev pub HasMade : ℕ → Player → ℕ → Type 0
+HasMade n player h = (other : Hart) → is_retired (progress_at player h) ≡ false → n ≤ ends_of (slice_index_or player.harts.items h other)
 
--- the order that is played: the rounds alone
-abbrev pub solo_order : Setup → List ℕ
-solo_order setup = played setup []
+abbrev pub AllMade : ℕ → Player → Type 0
+AllMade n player = (h : ℕ) → h < length player.harts.items → HasMade n player h
+
+-- a step brings the end of its instruction nearer, or counts it, and only a hart that has retired has none
+abbrev pub StepCounts : ℕ → Step → Player → Player → Type 0
+StepCounts h step_of.Accessed old new = (new.harts.items ≡ old.harts.items) × (left (progress_at new h) < left (progress_at old h))
+StepCounts h step_of.Ended old new = (n : ℕ) → HasMade n old h → HasMade (n + 1) new h
+StepCounts h step_of.Over old new = is_retired (progress_at new h) ≡ true
+StepCounts h (step_of.Unbuilt pc) old new = Unit {0}
+
+-- a turn counts one end
+abbrev pub TurnCounts : ℕ → Option ℕ → Player → Player → Type 0
+TurnCounts h None old new = (n : ℕ) → HasMade n old h → HasMade (n + 1) new h
+TurnCounts h (Some pc) old new = Unit {0}
+
+-- so much of the order is played, all of it is built, and the turns of these harts are the rest
+pub record Playing (setup : Setup) (order : List ℕ) (player : Player) (rest : List ℕ) : Type 0 where
+  pub names : List ℕ
+  pub at : IsAt setup (reach setup names) player
+  pub order_is : played setup order ≡ names ++ turns setup (reach setup names) rest
+  pub built : first_unbuilt setup (begin setup) names ≡ None
+
+-- a round is played, or stopped at the pc of the first event that isn't built
+abbrev pub AfterRound : Setup → List ℕ → List ℕ → Option ℕ → Player → Type 0
+AfterRound setup order rest None player = Playing setup order player rest
+AfterRound setup order rest (Some pc) player = first_unbuilt setup (begin setup) (played setup order) ≡ Some pc
+
+-- a round counts one end of each hart
+abbrev pub RoundCounts : Option ℕ → Player → Player → Type 0
+RoundCounts None old new = (length new.harts.items ≡ length old.harts.items) × ((n : ℕ) → AllMade n old → AllMade (n + 1) new)
+RoundCounts (Some pc) old new = Unit {0}
+
+-- the named hart's next event was made, or isn't built
+abbrev pub AfterName : Setup → Machine → ℕ → Option ℕ → Player → Type 0
+AfterName setup u h None player = IsStepped setup u h player
+AfterName setup u h (Some pc) player = unbuilt_at setup u h ≡ Some pc
+
+-- these events of an order are made, and are built
+pub record IsReached (setup : Setup) (names : List ℕ) (player : Player) : Type 0 where
+  pub at : IsAt setup (reach setup names) player
+  pub built : first_unbuilt setup (begin setup) names ≡ None
+
+abbrev pub AfterOrder : Setup → List ℕ → Option ℕ → Player → Type 0
+AfterOrder setup order None player = IsReached setup order player
+AfterOrder setup order (Some pc) player = first_unbuilt setup (begin setup) order ≡ Some pc
 
 -- the run has ended
-pub record HasPlayed (setup : Setup) (player : Player) (memory : List ℕ) : Type 0 where
-  pub at : IsAt setup (reach setup (solo_order setup)) player memory
-  pub built : first_unbuilt setup (begin setup) (solo_order setup) ≡ None
-  pub ended : has_ended setup (reach setup (solo_order setup)) ≡ true
+pub record HasPlayed (setup : Setup) (order : List ℕ) (player : Player) : Type 0 where
+  pub at : IsAt setup (reach setup (played setup order)) player
+  pub built : first_unbuilt setup (begin setup) (played setup order) ≡ None
+  pub ended : has_ended setup (reach setup (played setup order)) ≡ true
 
 -- what came of the play: the ended run, or the pc of the first event that isn't built
-abbrev pub Played : Setup → Option ℕ → Player → List ℕ → Type 0
-Played setup None player memory = HasPlayed setup player memory
-Played setup (Some pc) player memory = first_unbuilt setup (begin setup) (solo_order setup) ≡ Some pc
+abbrev pub Played : Setup → List ℕ → Option ℕ → Player → Type 0
+Played setup order None player = HasPlayed setup order player
+Played setup order (Some pc) player = first_unbuilt setup (begin setup) (played setup order) ≡ Some pc
+
+-- so many harts at their start, in order of their numbers
+pub record AreStarted (entry harts : ℕ) (made : List Hart) : Type 0 where
+  pub size : length made ≡ harts
+  pub each : (h : ℕ) (other : Hart) → h < harts → StandsFor (slice_index_or made h other) (start h entry)
 
 -- the player at the start of a run
-pub record IsStarted (player : Player) (layout : Layout) (budget entry : ℕ) : Type 0 where
+pub record IsStarted (player : Player) (layout : Layout) (budget entry : ℕ) (bank : Bank) : Type 0 where
   pub layout_is : player.layout ≡ layout
   pub budget_is : player.budget ≡ budget
-  pub hart : StandsFor player.hart (start 0 entry)
-  pub progress : player.progress ≡ progress.Begun
-  pub run : parted_by player.run ≡ unparted default_plan 1
+  pub harts : AreStarted entry layout.harts player.harts.items
+  pub progress : (length player.progress.items ≡ layout.harts) × ((h : ℕ) → progress_at player h ≡ progress.Begun)
+  pub run : parted_by player.run ≡ unparted default_plan layout.harts
+  pub lines : player.lines ≡ bank

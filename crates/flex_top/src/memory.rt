@@ -1,43 +1,41 @@
-ghost use Rattle.std.specs.Prelude.{◌≡◌, ℕ, ◌+◌, ◌-◌, ◌^◌, ◌<◌, ◌≤◌, true, length, slice_index};
-ghost use Rattle.flex_base.specs.Place.{ram_base};
+ghost use Rattle.std.specs.Prelude.{◌≡◌, ◌<◌, true};
 ghost use Rattle.flex_base.specs.Setup.{Setup};
 ghost use Rattle.flex_base.specs.Built.{is_built_access};
 ghost use Rattle.flex_base.specs.Forms.{HasForm, IsPlaced};
-ghost use Rattle.flex_base.specs.FlatMemory.{value_at, reply_with, put};
+ghost use Rattle.flex_base.specs.FlatMemory.{is_ram_access, reply_with};
 ghost use Rattle.flex_base.specs.Unsplit.{Machine, reply_to};
-ghost use Rattle.flex_top.specs.Memory.{IsReplay, replayed};
+ghost use Rattle.flex_top.specs.Memory.{Keeps, IsAlone, replayed};
 
-use flex_base::{Access, RAM_BASE, Reply};
+use flex_base::{Access, HartId, Reply};
+use mem_lines::Lines;
 
-// Makes an access that is built on all bytes of RAM. Without devices a pulse tells nothing.
-pub(crate) fn act(memory: &mut [u8], access: &Access) -> Reply
+// Makes an access that is built on the one bank of RAM. Without devices the others tell nothing.
+pub(crate) fn act(lines: &mut Lines, hart: HartId, access: &Access) -> Reply
+    requires hart { hart.0 < 32 }
     requires built { is_built_access access.now ≡ true }
-    requires placed { (setup : Setup) × (setup.ram ≡ length memory.old) × IsPlaced setup access.now }
+    requires placed { (setup : Setup) × IsAlone setup.ram lines.old × IsPlaced setup access.now }
     ensures form { HasForm access.now result }
-    ensures flat { (setup : Setup) (u : Machine) (h : ℕ) → IsPlaced setup access.now → IsReplay setup memory.old u.ram → result ≡ reply_to setup u h access.now }
-    ensures replay { (setup : Setup) (u : Machine) (h : ℕ) → IsPlaced setup access.now → IsReplay setup memory.old u.ram → IsReplay setup memory.new (replayed u.ram h access.now result) }
+    ensures flat { (setup : Setup) (u : Machine) → Keeps setup u.ram lines.old → result ≡ reply_to setup u hart.0 access.now }
+    ensures keeps { (setup : Setup) (u : Machine) → Keeps setup u.ram lines.old → Keeps setup (replayed u.ram hart.0 access.now result) lines.new }
 {
-    match *access {
-        Access::Fetch { address } => told(read(memory, place(address), 4)),
-        Access::Read { address, width } => told(read(memory, place(address), width as usize)),
-        Access::Write {
-            address,
-            width,
-            value,
-        } => {
-            write(memory, place(address), width as usize, value);
-            told(0)
-        }
-        _ => told(0),
+    if is_of_ram(access) {
+        lines.act(hart, access)
+    } else {
+        told(0)
     }
 }
 
-// Where the byte of an address stands among all bytes of RAM.
-fn place(address: u64) -> usize
-    requires { ram_base ≤ address }
-    ensures { result ≡ address - ram_base }
+fn is_of_ram(access: &Access) -> bool
+    ensures { result ≡ is_ram_access access.now }
 {
-    (address - RAM_BASE) as usize
+    match access {
+        Access::Fetch { .. } | Access::Pte { .. } | Access::Read { .. } | Access::Write { .. } => {
+            true
+        }
+        Access::Lr { .. } | Access::Sc { .. } | Access::Amo { .. } => true,
+        Access::DevRead { .. } | Access::DevWrite { .. } | Access::Pulse { .. } => false,
+        Access::Wait { .. } | Access::Retire | Access::Time => false,
+    }
 }
 
 // A reply that tells a value and nothing else.
@@ -48,31 +46,5 @@ fn told(value: u64) -> Reply
         value,
         lines: 0,
         stop: false,
-    }
-}
-
-// The little-endian value of so many bytes.
-fn read(memory: &[u8], at: usize, width: usize) -> u64
-    requires within { at + width ≤ length memory.now }
-    requires width { width ≤ 8 }
-    ensures value { result ≡ value_at (λ i. slice_index memory.now i) at width }
-    ensures fits { result < 256 ^ width }
-{
-    let mut value = 0;
-    for i in 0..width {
-        value = 256 * value + memory[at + (width - 1 - i)] as u64;
-    }
-    value
-}
-
-// Writes the lowest bytes of a value, little-endian.
-fn write(memory: &mut [u8], at: usize, width: usize, value: u64)
-    requires { at + width ≤ length memory.old }
-    ensures { (i : ℕ) → slice_index memory.new i ≡ put i (slice_index memory.old i) at width value }
-{
-    let mut rest = value;
-    for i in 0..width {
-        memory[at + i] = (rest % 256) as u8;
-        rest /= 256;
     }
 }

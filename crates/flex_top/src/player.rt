@@ -1,20 +1,27 @@
-ghost use Rattle.std.specs.Prelude.{◌≡◌, ◌^◌, ◌<◌, IfOk};
+ghost use Rattle.std.specs.Prelude.{◌≡◌, ℕ, ◌^◌, ◌<◌, List, ◌++◌, map, length, IfOk};
 ghost use Rattle.flex_base.specs.Setup.{Setup};
-ghost use Rattle.flex_base.specs.Unsplit.{Machine, begin};
+ghost use Rattle.flex_base.specs.Unsplit.{Machine, begin, hart_numbers};
+ghost use Rattle.flex_top.specs.Words.{hart_of};
+ghost use Rattle.flex_top.specs.Play.{AreStarted};
 
 use crate::memory::act;
 use crate::split_run::SplitRun;
+use crate::words::hart_named;
 use flex_base::{HartId, Layout, What};
 use hart_story::{Hart, Need, Progress, finish, give, need};
+use mem_lines::Lines;
 use std::alloc::{AllocError, Global};
 
-/// One hart that is played, and the split run so far.
+/// The harts that are played over one bank of RAM, and the split run so far.
 #[derive(Drop)]
 pub(crate) struct Player {
     pub(crate) layout: Layout,
     pub(crate) budget: u64,
-    pub(crate) hart: Hart,
-    pub(crate) progress: Progress,
+    /// Each hart at the start of its instruction.
+    pub(crate) harts: Vec<Hart>,
+    /// How far each hart is in its instruction.
+    pub(crate) progress: Vec<Progress>,
+    pub(crate) lines: Lines,
     pub(crate) run: SplitRun,
 }
 
@@ -31,92 +38,168 @@ pub(crate) enum Step {
     Unbuilt(u64),
 }
 
-/// What came of a turn.
-#[derive(Clone, Copy)]
-pub(crate) enum Turn {
-    /// An instruction ended.
-    Ended,
-    /// The hart has nothing left to do.
-    Over,
-    /// The next event, at this `pc`, isn't built.
-    Unbuilt(u64),
-}
-
 impl Player {
-    ghost use Rattle.flex_top.specs.Play.{IsAt, IsStarted, AfterStep, AfterTurn, StepCounts, TurnCounts, Played};
+    ghost use Rattle.flex_top.specs.Play.{IsAt, IsStarted, AfterStep, AfterTurn, AfterRound, AfterName, AfterOrder, KeepsOthers, StepCounts, TurnCounts, RoundCounts, Playing, Played};
 
-    // The hart at the start, at this entry.
-    pub(crate) fn start(alloc: Global, layout: Layout, budget: u64, entry: u64) -> Player
-        ensures { IsStarted result layout budget entry }
+    // The harts at their start, at this entry, over this RAM.
+    pub(crate) fn start(
+        alloc: Global,
+        layout: Layout,
+        budget: u64,
+        entry: u64,
+        lines: Lines,
+    ) -> Result<Player, AllocError>
+        ensures { IfOk result (λ player. IsStarted player layout budget entry lines) }
     {
-        Player {
+        let harts = started(alloc, layout.harts, entry)?;
+        let begun = Progress::begin();
+        let progress = vec![in alloc; begun; layout.harts as usize]?;
+        let run = SplitRun::new(alloc, layout.harts)?;
+        Ok(Player {
             layout,
             budget,
-            hart: Hart::start(HartId(0), entry),
-            progress: Progress::begin(),
-            run: SplitRun::new(alloc),
-        }
+            harts,
+            progress,
+            lines,
+            run,
+        })
     }
 
-    // Makes the next event, where there is one that is built.
-    pub(crate) fn step(&mut self, memory: &mut [u8]) -> Result<Step, AllocError>
-        requires at { (setup : Setup) × (u : Machine) × IsAt setup u self.old memory.old }
-        ensures after { IfOk result (λ turn. (setup : Setup) (u : Machine) → IsAt setup u self.old memory.old → AfterStep setup u turn self.new memory.new) }
-        ensures counts { IfOk result (λ turn. StepCounts turn self.old self.new) }
+    // Makes the next event of a hart, where there is one that is built.
+    pub(crate) fn step(&mut self, h: usize) -> Result<Step, AllocError>
+        requires hart { h < length self.old.harts.items }
+        requires at { (setup : Setup) × (u : Machine) × IsAt setup u self.old }
+        ensures after { IfOk result (λ came. (setup : Setup) (u : Machine) → IsAt setup u self.old → AfterStep setup u h came self.new) }
+        ensures others { IfOk result (λ came. KeepsOthers h self.old self.new) }
+        ensures counts { IfOk result (λ came. StepCounts h came self.old self.new) }
     {
-        match need(&self.hart, &self.progress, &self.layout, self.budget) {
+        let hart = HartId(h as u8);
+        match need(
+            &self.harts[h],
+            &self.progress[h],
+            &self.layout,
+            self.budget,
+        ) {
             Need::Ask(access, _) => {
-                let told = act(memory, &access);
+                let told = act(&mut self.lines, hart, &access);
                 give(
-                    &self.hart,
-                    &mut self.progress,
+                    &self.harts[h],
+                    &mut self.progress[h],
                     &self.layout,
                     self.budget,
                     told,
                 );
-                self.run.add(What::Acc(access, told))?;
+                self.run.add(hart, What::Acc(access, told))?;
                 Ok(Step::Accessed)
             }
             Need::Finish(_) => {
-                let part = finish(&mut self.hart, self.progress, &self.layout, self.budget);
-                self.progress = Progress::begin();
-                self.run.add(What::End(part))?;
+                let part = finish(
+                    &mut self.harts[h],
+                    self.progress[h],
+                    &self.layout,
+                    self.budget,
+                );
+                self.progress[h] = Progress::begin();
+                self.run.add(hart, What::End(part))?;
                 Ok(Step::Ended)
             }
             Need::Over => Ok(Step::Over),
-            Need::Unbuilt => Ok(Step::Unbuilt(self.hart.pc)),
+            Need::Unbuilt => Ok(Step::Unbuilt(self.harts[h].regs.pc)),
         }
     }
 
-    // Makes the hart's events up to and including its next end.
-    pub(crate) fn turn(&mut self, memory: &mut [u8]) -> Result<Turn, AllocError>
-        requires at { (setup : Setup) × (u : Machine) × IsAt setup u self.old memory.old }
-        ensures after { IfOk result (λ turn. (setup : Setup) (u : Machine) → IsAt setup u self.old memory.old → AfterTurn setup u turn self.new memory.new) }
-        ensures counts { IfOk result (λ turn. TurnCounts turn self.old self.new) }
+    // Makes a hart's events up to and including its next end, or to one that isn't built, whose
+    // `pc` it gives.
+    pub(crate) fn turn(&mut self, h: usize) -> Result<Option<u64>, AllocError>
+        requires hart { h < length self.old.harts.items }
+        requires at { (setup : Setup) × (u : Machine) × IsAt setup u self.old }
+        ensures after { IfOk result (λ pc. (setup : Setup) (u : Machine) → IsAt setup u self.old → AfterTurn setup u h pc self.new) }
+        ensures others { IfOk result (λ pc. KeepsOthers h self.old self.new) }
+        ensures counts { IfOk result (λ pc. TurnCounts h pc self.old self.new) }
     {
-        match self.step(memory)? {
-            Step::Accessed => self.turn(memory),
-            Step::Ended => Ok(Turn::Ended),
-            Step::Over => Ok(Turn::Over),
-            Step::Unbuilt(pc) => Ok(Turn::Unbuilt(pc)),
+        match self.step(h)? {
+            Step::Accessed => self.turn(h),
+            Step::Ended => Ok(None),
+            Step::Over => Ok(None),
+            Step::Unbuilt(pc) => Ok(Some(pc)),
         }
     }
 
-    // Plays the rounds until the run has ended, or to an event that isn't built, whose `pc` it gives.
-    pub(crate) fn play(&mut self, memory: &mut [u8]) -> Result<Option<u64>, AllocError>
-        requires few { self.old.budget < 2 ^ 32 }
-        requires begun { self.old.progress ≡ Progress.Begun }
-        requires unspent { self.old.hart.ends ≡ 0 }
-        requires at { (setup : Setup) × IsAt setup (begin setup) self.old memory.old }
-        ensures { IfOk result (λ pc. (setup : Setup) → IsAt setup (begin setup) self.old memory.old → Played setup pc self.new memory.new) }
+    // Each hart makes its turn, in rising order.
+    fn round(&mut self) -> Result<Option<u64>, AllocError>
+        requires at { (setup : Setup) × (u : Machine) × IsAt setup u self.old }
+        ensures after { IfOk result (λ pc. (setup : Setup) (order rest : List ℕ) → Playing setup order self.old (hart_numbers setup ++ rest) → AfterRound setup order rest pc self.new) }
+        ensures counts { IfOk result (λ pc. RoundCounts pc self.old self.new) }
     {
-        'rounds: for _ in 0..10 * self.budget + 1 {
-            match self.turn(memory)? {
-                Turn::Ended => {}
-                Turn::Over => return Ok(None),
-                Turn::Unbuilt(pc) => return Ok(Some(pc)),
+        for h in 0..self.harts.len() {
+            match self.turn(h)? {
+                None => {}
+                Some(pc) => return Ok(Some(pc)),
             }
         }
-        unreachable!()
+        Ok(None)
     }
+
+    // The hart that the character names makes its next event. A name without a hart is passed over.
+    fn name(&mut self, character: u8) -> Result<Option<u64>, AllocError>
+        requires at { (setup : Setup) × (u : Machine) × IsAt setup u self.old }
+        ensures { IfOk result (λ pc. (setup : Setup) (u : Machine) → IsAt setup u self.old → AfterName setup u (hart_of character) pc self.new) }
+    {
+        let h = hart_named(character) as usize;
+        if h >= self.harts.len() {
+            return Ok(None);
+        }
+        match self.step(h)? {
+            Step::Accessed => Ok(None),
+            Step::Ended => Ok(None),
+            Step::Over => Ok(None),
+            Step::Unbuilt(pc) => Ok(Some(pc)),
+        }
+    }
+
+    // The harts that the characters name make their next events.
+    fn follow(&mut self, order: &[u8]) -> Result<Option<u64>, AllocError>
+        requires at { (setup : Setup) × IsAt setup (begin setup) self.old }
+        ensures { IfOk result (λ pc. (setup : Setup) → IsAt setup (begin setup) self.old → AfterOrder setup (map hart_of order.now) pc self.new) }
+    {
+        for character in order {
+            match self.name(*character)? {
+                None => {}
+                Some(pc) => return Ok(Some(pc)),
+            }
+        }
+        Ok(None)
+    }
+
+    // Plays the order and then the rounds until the run has ended, or to an event that isn't
+    // built, whose `pc` it gives. Each round ends an instruction of each hart that has ends left,
+    // and one more lets the last harts retire.
+    pub(crate) fn play(&mut self, order: &[u8]) -> Result<Option<u64>, AllocError>
+        requires few { self.old.budget < 2 ^ 32 }
+        requires at { (setup : Setup) × IsAt setup (begin setup) self.old }
+        ensures { IfOk result (λ pc. (setup : Setup) → IsAt setup (begin setup) self.old → Played setup (map hart_of order.now) pc self.new) }
+    {
+        match self.follow(order)? {
+            None => {}
+            Some(pc) => return Ok(Some(pc)),
+        }
+        'rounds: for _ in 0..self.budget + 1 {
+            match self.round()? {
+                None => {}
+                Some(pc) => return Ok(Some(pc)),
+            }
+        }
+        Ok(None)
+    }
+}
+
+// So many harts at their start, at this entry.
+fn started(alloc: Global, count: u8, entry: u64) -> Result<Vec<Hart>, AllocError>
+    ensures { IfOk result (λ harts. AreStarted entry count harts.items) }
+{
+    let mut harts = Vec::with_capacity(alloc, count as usize)?;
+    for h in 0..count {
+        harts.push(Hart::start(HartId(h), entry))?;
+    }
+    Ok(harts)
 }

@@ -1,10 +1,13 @@
-ghost use Rattle.std.specs.Prelude.{◌≡◌, ◌≢◌, ◌≤◌, ◌<◌, ◌^◌, [], length, IfOk, OnOk, OnErr, IsErr};
+ghost use Rattle.std.specs.Prelude.{◌≡◌, ◌≢◌, ◌≤◌, ◌<◌, ◌^◌, true, List, ℕ, [], map, length, IfOk, OnOk, OnErr, IsErr};
+ghost use Rattle.flex_base.specs.Limits.{is_lawful};
 ghost use Rattle.flex_base.specs.Setup.{Setup};
+ghost use Rattle.flex_base.specs.Unsplit.{begin};
 ghost use Rattle.flex_base.specs.Journal.{console};
 ghost use Rattle.flex_base.specs.Files.{Counts, ChangesFile};
 ghost use Rattle.flex_top.specs.Answer.{setup_of, answer_of_setup, IsAnswer, IsWhole, journal_of, trace_of};
-ghost use Rattle.flex_top.specs.Play.{HasPlayed};
-ghost use Rattle.flex_top.specs.Ready.{IsReady, IsPrepared};
+ghost use Rattle.flex_top.specs.Play.{IsAt, HasPlayed};
+ghost use Rattle.flex_top.specs.Ready.{IsPrepared};
+ghost use Rattle.flex_top.specs.Words.{hart_of};
 ghost use Rattle.flex_top.specs.Written.{Becomes, BecomesPart};
 
 use crate::pieces::Pieces;
@@ -15,46 +18,44 @@ use crate::trace_file::{Trace, write_trace};
 use flex_base::{Failed, Layout, Outer, RAM_BASE, Settings, Stop};
 use std::alloc::{AllocError, Global};
 
-/// A run that is ready: the hart at its start, RAM, and the room for the pieces of the text.
+/// A run that is ready: the harts at their start over RAM, and the room for the pieces of the text.
 #[derive(Drop)]
 pub(crate) struct Prepared {
     pub(crate) player: Player,
-    pub(crate) memory: Vec<u8>,
     pub(crate) pieces: Pieces,
 }
 
 // Makes ready a run of a raw file. The error is want of memory.
 pub(crate) fn prepare(
     alloc: Global,
-    file: &[u8],
-    ram: u64,
-    budget: u64,
+    file: Vec<u8>,
+    settings: &Settings,
 ) -> Result<Prepared, AllocError>
-    requires { length file.now ≤ ram }
-    ensures { IfOk result (λ prepared. IsPrepared (setup_of file.now ram budget) prepared) }
+    requires lawful { is_lawful settings.now ≡ true }
+    requires fits { length file.items ≤ settings.now.ram }
+    ensures { IfOk result (λ prepared. IsPrepared (setup_of file.items settings.now.harts settings.now.ram settings.now.budget) prepared) }
 {
     let pieces = Pieces::new(alloc)?;
-    let memory = load(alloc, file, ram as usize)?;
-    let layout = Layout { harts: 1, ram };
-    let player = Player::start(alloc, layout, budget, RAM_BASE);
-    Ok(Prepared {
-        player,
-        memory,
-        pieces,
-    })
+    let lines = load(alloc, file, settings)?;
+    let layout = Layout {
+        harts: settings.harts,
+        ram: settings.ram,
+    };
+    let player = Player::start(alloc, layout, settings.budget, RAM_BASE, lines)?;
+    Ok(Prepared { player, pieces })
 }
 
 impl Prepared {
-    // Plays the run, and writes its trace where it has ended.
-    pub(crate) fn run<O: Outer>(self, name: &str, outer: &mut O) -> Status
+    // Plays the run in this order, and writes its trace where it has ended.
+    pub(crate) fn run<O: Outer>(self, order: &[u8], name: &str, outer: &mut O) -> Status
         requires few { self.player.budget < 2 ^ 32 }
         requires prepared { (setup : Setup) × IsPrepared setup self }
-        ensures answer { (setup : Setup) → IsPrepared setup self → IsAnswer (answer_of_setup setup) result }
+        ensures answer { (setup : Setup) → IsPrepared setup self → IsAnswer (answer_of_setup setup (map hart_of order.now)) result }
         ensures not_read { result ≢ Status.ReadFault }
-        ensures trace { (setup : Setup) → IsPrepared setup self → result ≡ Status.Ended → ChangesFile (O.written outer.old) (O.written outer.new) name.now (Becomes (trace_of setup)) }
-        ensures cut { (setup : Setup) → IsPrepared setup self → result ≡ Status.WriteFault → ChangesFile (O.written outer.old) (O.written outer.new) name.now (BecomesPart (trace_of setup)) }
-        ensures whole { (setup : Setup) → IsPrepared setup self → result ≡ Status.Ended → IsWhole setup }
-        ensures quiet { (setup : Setup) → IsPrepared setup self → result ≡ Status.Ended → console (journal_of setup) ≡ [] }
+        ensures trace { (setup : Setup) → IsPrepared setup self → result ≡ Status.Ended → ChangesFile (O.written outer.old) (O.written outer.new) name.now (Becomes (trace_of setup (map hart_of order.now))) }
+        ensures cut { (setup : Setup) → IsPrepared setup self → result ≡ Status.WriteFault → ChangesFile (O.written outer.old) (O.written outer.new) name.now (BecomesPart (trace_of setup (map hart_of order.now))) }
+        ensures whole { (setup : Setup) → IsPrepared setup self → result ≡ Status.Ended → IsWhole setup (map hart_of order.now) }
+        ensures quiet { (setup : Setup) → IsPrepared setup self → result ≡ Status.Ended → console (journal_of setup (map hart_of order.now)) ≡ [] }
         ensures nothing { result ≢ Status.Ended → result ≢ Status.WriteFault → O.written outer.new ≡ O.written outer.old }
         ensures cause { Counts (O.write_faults outer.old) (O.write_faults outer.new) (result ≡ Status.WriteFault) }
 
@@ -64,29 +65,28 @@ impl Prepared {
     {
         let Prepared {
             mut player,
-            mut memory,
             mut pieces,
         } = self;
-        play_and_write(&mut player, &mut memory, &mut pieces, name, outer)
+        play_and_write(&mut player, order, &mut pieces, name, outer)
     }
 }
 
-// Plays the run over these bytes of RAM, and writes its trace where it has ended.
+// Plays the run in this order, and writes its trace where it has ended.
 fn play_and_write<O: Outer>(
     player: &mut Player,
-    memory: &mut [u8],
+    order: &[u8],
     pieces: &mut Pieces,
     name: &str,
     outer: &mut O,
 ) -> Status
     requires few { player.old.budget < 2 ^ 32 }
-    requires ready { (setup : Setup) × IsReady setup player.old memory.old }
-    ensures answer { (setup : Setup) → IsReady setup player.old memory.old → IsAnswer (answer_of_setup setup) result }
+    requires ready { (setup : Setup) × IsAt setup (begin setup) player.old }
+    ensures answer { (setup : Setup) → IsAt setup (begin setup) player.old → IsAnswer (answer_of_setup setup (map hart_of order.now)) result }
     ensures not_read { result ≢ Status.ReadFault }
-    ensures trace { (setup : Setup) → IsReady setup player.old memory.old → result ≡ Status.Ended → ChangesFile (O.written outer.old) (O.written outer.new) name.now (Becomes (trace_of setup)) }
-    ensures cut { (setup : Setup) → IsReady setup player.old memory.old → result ≡ Status.WriteFault → ChangesFile (O.written outer.old) (O.written outer.new) name.now (BecomesPart (trace_of setup)) }
-    ensures whole { (setup : Setup) → IsReady setup player.old memory.old → result ≡ Status.Ended → IsWhole setup }
-    ensures quiet { (setup : Setup) → IsReady setup player.old memory.old → result ≡ Status.Ended → console (journal_of setup) ≡ [] }
+    ensures trace { (setup : Setup) → IsAt setup (begin setup) player.old → result ≡ Status.Ended → ChangesFile (O.written outer.old) (O.written outer.new) name.now (Becomes (trace_of setup (map hart_of order.now))) }
+    ensures cut { (setup : Setup) → IsAt setup (begin setup) player.old → result ≡ Status.WriteFault → ChangesFile (O.written outer.old) (O.written outer.new) name.now (BecomesPart (trace_of setup (map hart_of order.now))) }
+    ensures whole { (setup : Setup) → IsAt setup (begin setup) player.old → result ≡ Status.Ended → IsWhole setup (map hart_of order.now) }
+    ensures quiet { (setup : Setup) → IsAt setup (begin setup) player.old → result ≡ Status.Ended → console (journal_of setup (map hart_of order.now)) ≡ [] }
     ensures nothing { result ≢ Status.Ended → result ≢ Status.WriteFault → O.written outer.new ≡ O.written outer.old }
     ensures cause { Counts (O.write_faults outer.old) (O.write_faults outer.new) (result ≡ Status.WriteFault) }
 
@@ -94,8 +94,8 @@ fn play_and_write<O: Outer>(
     ensures held { O.held outer.new ≡ O.held outer.old }
     ensures said { O.said outer.new ≡ O.said outer.old }
 {
-    match player.play(memory) {
-        Ok(None) => match write(outer, name, pieces, player, memory) {
+    match player.play(order) {
+        Ok(None) => match write(outer, name, pieces, player) {
             Ok(()) => Status::Ended,
             Err(Failed) => Status::WriteFault,
         },
@@ -110,10 +110,10 @@ fn write<O: Outer>(
     name: &str,
     pieces: &mut Pieces,
     player: &Player,
-    memory: &[u8],
 ) -> Result<(), Failed>
-    ensures ok { OnOk result ((setup : Setup) → HasPlayed setup player.now memory.now → ChangesFile (O.written outer.old) (O.written outer.new) name.now (Becomes (trace_of setup))) }
-    ensures err { OnErr result ((setup : Setup) → HasPlayed setup player.now memory.now → ChangesFile (O.written outer.old) (O.written outer.new) name.now (BecomesPart (trace_of setup))) }
+    requires { (setup : Setup) × (order : List ℕ) × HasPlayed setup order player.now }
+    ensures ok { OnOk result ((setup : Setup) (order : List ℕ) → HasPlayed setup order player.now → ChangesFile (O.written outer.old) (O.written outer.new) name.now (Becomes (trace_of setup order))) }
+    ensures err { OnErr result ((setup : Setup) (order : List ℕ) → HasPlayed setup order player.now → ChangesFile (O.written outer.old) (O.written outer.new) name.now (BecomesPart (trace_of setup order))) }
     ensures cause { Counts (O.write_faults outer.old) (O.write_faults outer.new) (IsErr result) }
 
     ensures read_faults { O.read_faults outer.new ≡ O.read_faults outer.old }
@@ -122,14 +122,14 @@ fn write<O: Outer>(
 {
     let trace = Trace {
         settings: Settings {
-            harts: 1,
-            ram: memory.len() as u64,
+            harts: player.harts.len() as u8,
+            ram: player.lines.ram(),
             budget: player.budget,
         },
         events: &player.run.events,
         stop: Stop::Budget,
-        harts: &[player.hart],
-        ram: memory,
+        harts: &player.harts,
+        ram: player.lines.bytes(),
     };
     match write_trace(outer, name, pieces, &trace) {
         Ok(()) => Ok(()),

@@ -1,7 +1,10 @@
-ghost use Rattle.std.specs.Prelude.{◌≡◌, ℕ, ◌≤◌, [], ◌++◌, length, drop, IfOk};
-ghost use Rattle.flex_top.specs.Answer.{is_elf, setup_of};
-ghost use Rattle.flex_top.specs.Memory.{IsReplay};
+ghost use Rattle.std.specs.Prelude.{◌≡◌, ◌≤◌, true, [], length, IfOk};
+ghost use Rattle.flex_base.specs.Limits.{is_lawful};
+ghost use Rattle.flex_top.specs.Answer.{is_elf, raw, setup_of};
+ghost use Rattle.flex_top.specs.Memory.{Keeps};
 
+use flex_base::{Image, RAM_BASE, Settings};
+use mem_lines::Lines;
 use std::alloc::{AllocError, Global};
 
 // Whether the file begins as an ELF file does.
@@ -14,20 +17,31 @@ pub(crate) fn is_elf(file: &[u8]) -> bool
     }
 }
 
-// All bytes of RAM at the start: the file, and then zeros.
-pub(crate) fn load(alloc: Global, file: &[u8], ram: usize) -> Result<Vec<u8>, AllocError>
-    requires { length file.now ≤ ram }
-    ensures { IfOk result (λ memory. (budget : ℕ) → IsReplay (setup_of file.now ram budget) memory.items []) }
+// RAM at the start, in one bank: the file, and then zeros.
+pub(crate) fn load(
+    alloc: Global,
+    file: Vec<u8>,
+    settings: &Settings,
+) -> Result<Lines, AllocError>
+    requires lawful { is_lawful settings.now ≡ true }
+    requires fits { length file.items ≤ settings.now.ram }
+    ensures { IfOk result (λ lines. Keeps (setup_of file.items settings.now.harts settings.now.ram settings.now.budget) [] lines) }
 {
-    let mut memory = vec![in alloc; 0; ram]?;
-    copy(&mut memory, file);
-    Ok(memory)
+    let image = image_of(alloc, file)?;
+    match Lines::new(alloc, &image, settings, 1, 0) {
+        Ok(lines) => Ok(lines),
+        Err(error) => Err(error),
+    }
 }
 
-// Writes the bytes over the first of the memory.
-fn copy(memory: &mut [u8], bytes: &[u8])
-    requires { length bytes.now ≤ length memory.old }
-    ensures { memory.new ≡ bytes.now ++ drop (length bytes.now) memory.old }
+// A raw file as an image.
+fn image_of(alloc: Global, file: Vec<u8>) -> Result<Image, AllocError>
+    ensures { IfOk result (λ image. image ≡ raw file.items) }
 {
-    memory[..bytes.len()].copy_from_slice(bytes);
+    let mut parts = Vec::new(alloc);
+    parts.push((RAM_BASE, file))?;
+    Ok(Image {
+        entry: RAM_BASE,
+        parts,
+    })
 }

@@ -1,4 +1,4 @@
-ghost use Rattle.std.specs.Prelude.{◌≡◌, ◌++◌, ◌∷◌, [], OnOk, length};
+ghost use Rattle.std.specs.Prelude.{◌≡◌, ◌++◌, ◌∷◌, [], ◌<◌, IfOk, OnOk, length};
 ghost use Rattle.flex_base.specs.Classes.{class_of_what, default_plan};
 ghost use Rattle.flex_base.specs.Unsplit.{does};
 ghost use Rattle.flex_base.specs.Split.{part, unparted, numbered};
@@ -6,48 +6,59 @@ ghost use Rattle.flex_base.specs.Split.{part, unparted, numbered};
 use flex_base::{Class, Engine, Event, HartId, What, access_class, capable};
 use std::alloc::{AllocError, Global};
 
-/// The split run so far, of one hart: the engine that holds it, and the numbered events with the
+/// The split run so far: the engine that holds each hart, and the numbered events with the
 /// handovers between them.
 #[derive(Drop)]
 pub(crate) struct SplitRun {
-    pub(crate) engine: Engine,
+    pub(crate) engines: Vec<Engine>,
     pub(crate) events: Vec<Event>,
 }
 
 impl SplitRun {
     ghost use Rattle.flex_top.specs.Splitting.{parted_by};
 
-    // Nothing has happened, and the hart is in the engine of fetch.
-    pub(crate) fn new(alloc: Global) -> SplitRun
-        ensures { parted_by result ≡ unparted default_plan 1 }
+    // Nothing has happened, and each hart is in the engine of fetch.
+    pub(crate) fn new(alloc: Global, harts: u8) -> Result<SplitRun, AllocError>
+        ensures { IfOk result (λ run. parted_by run ≡ unparted default_plan harts) }
     {
-        SplitRun {
-            engine: engine_of(Class::Fetch),
+        let first = engine_of(Class::Fetch);
+        let engines = vec![in alloc; first; harts as usize]?;
+        Ok(SplitRun {
+            engines,
             events: Vec::new(alloc),
-        }
+        })
     }
 
     // Adds what the hart did, with a handover before it where that is another engine's work.
-    pub(crate) fn add(&mut self, what: What) -> Result<(), AllocError>
-        ensures { OnOk result (parted_by self.new ≡ part default_plan (parted_by self.old) (does 0 what)) }
+    pub(crate) fn add(&mut self, hart: HartId, what: What) -> Result<(), AllocError>
+        requires { hart.0 < length self.old.engines.items }
+        ensures part { OnOk result (parted_by self.new ≡ part default_plan (parted_by self.old) (does hart.0 what)) }
+        ensures size { OnOk result (length self.new.engines.items ≡ length self.old.engines.items) }
     {
+        let h = hart.0 as usize;
+        let from = self.engines[h];
         let to = engine_of(class_of(&what));
-        if self.engine != to {
-            number(&mut self.events, self.engine, What::Handover(to))?;
-            self.engine = to;
+        if from != to {
+            number(&mut self.events, hart, from, What::Handover(to))?;
         }
-        number(&mut self.events, to, what)?;
+        self.engines[h] = to;
+        number(&mut self.events, hart, to, what)?;
         Ok(())
     }
 }
 
 // Adds an event with the next number.
-fn number(events: &mut Vec<Event>, engine: Engine, what: What) -> Result<(), AllocError>
-    ensures { OnOk result (events.new.items ≡ numbered events.old.items 0 engine what) }
+fn number(
+    events: &mut Vec<Event>,
+    hart: HartId,
+    engine: Engine,
+    what: What,
+) -> Result<(), AllocError>
+    ensures { OnOk result (events.new.items ≡ numbered events.old.items hart.0 engine what) }
 {
     let event = Event {
         number: events.len() as u64,
-        hart: HartId(0),
+        hart,
         engine,
         what,
     };

@@ -16,8 +16,8 @@ const IMAGE_LIMIT: u64 = 268_435_456;
 
 /// Does what the words ask for; the program's name isn't among them.
 ///
-/// `solo IMAGE TRACE`, which `--ram=MIB --budget=ENDS` may follow, plays one hart over the raw image
-/// of that name and writes the trace of the run under the other name. No other file is touched, and
+/// `solo IMAGE TRACE`, which options may follow, plays the harts over the raw image of that name, in
+/// the given order and then in rounds, and writes the trace of the run under the other name. No other file is touched, and
 /// nothing is said. After an answer other than `Ended` and `WriteFault` nothing is written; after
 /// `WriteFault` the file is as it was, or the beginning of the trace.
 pub fn flex_top<O: Outer>(alloc: Global, words: &[String], outer: &mut O) -> Status
@@ -25,23 +25,23 @@ pub fn flex_top<O: Outer>(alloc: Global, words: &[String], outer: &mut O) -> Sta
     ensures usage { (result ≡ Status.Usage) ↔ (reading (map string_bytes words.now) ≡ None) }
     ensures read_fault { Counts (O.read_faults outer.old) (O.read_faults outer.new) (result ≡ Status.ReadFault) }
     ensures write_fault { Counts (O.write_faults outer.old) (O.write_faults outer.new) (result ≡ Status.WriteFault) }
-    ensures answer { (r : Reading) → reading (map string_bytes words.now) ≡ Some r → IfSome (O.held outer.old) (λ files. Answers (files r.image) r.ram r.budget result) }
+    ensures answer { (r : Reading) → reading (map string_bytes words.now) ≡ Some r → IfSome (O.held outer.old) (λ files. Answers (files r.image) r.harts r.ram r.budget r.order result) }
 
-    ensures complete { (r : Reading) (file : List ℕ) → reading (map string_bytes words.now) ≡ Some r → IsSomeAnd (O.held outer.old) (λ files. files r.image ≡ Some file) → expected file r.ram r.budget ≡ Status.Ended
+    ensures complete { (r : Reading) (file : List ℕ) → reading (map string_bytes words.now) ≡ Some r → IsSomeAnd (O.held outer.old) (λ files. files r.image ≡ Some file) → expected file r.harts r.ram r.budget r.order ≡ Status.Ended
         → IsCalm (O.read_faults outer.old) (O.read_faults outer.new) → IsCalm (O.write_faults outer.old) (O.write_faults outer.new) → IsEnded result }
 
-    // What is written: the trace of the rounds, split by the default plan.
+    // What is written: the trace of the order and then the rounds, split by the default plan.
     ensures trace { (r : Reading) (file : List ℕ) → reading (map string_bytes words.now) ≡ Some r → IsSomeAnd (O.held outer.old) (λ files. files r.image ≡ Some file)
-        → result ≡ Status.Ended → ChangesFile (O.written outer.old) (O.written outer.new) r.trace (Becomes (trace_of (setup_of file r.ram r.budget))) }
+        → result ≡ Status.Ended → ChangesFile (O.written outer.old) (O.written outer.new) r.trace (Becomes (trace_of (setup_of file r.harts r.ram r.budget) r.order)) }
     ensures cut { (r : Reading) (file : List ℕ) → reading (map string_bytes words.now) ≡ Some r → IsSomeAnd (O.held outer.old) (λ files. files r.image ≡ Some file)
-        → result ≡ Status.WriteFault → ChangesFile (O.written outer.old) (O.written outer.new) r.trace (BecomesPart (trace_of (setup_of file r.ram r.budget))) }
+        → result ≡ Status.WriteFault → ChangesFile (O.written outer.old) (O.written outer.new) r.trace (BecomesPart (trace_of (setup_of file r.harts r.ram r.budget) r.order)) }
     ensures whole { (r : Reading) (file : List ℕ) → reading (map string_bytes words.now) ≡ Some r → IsSomeAnd (O.held outer.old) (λ files. files r.image ≡ Some file)
-        → result ≡ Status.Ended → IsWhole (setup_of file r.ram r.budget) }
+        → result ≡ Status.Ended → IsWhole (setup_of file r.harts r.ram r.budget) r.order }
     ensures nothing { result ≢ Status.Ended → result ≢ Status.WriteFault → O.written outer.new ≡ O.written outer.old }
 
     // What is said: the console bytes of the run, of which there are none so far.
     ensures console { (r : Reading) (file : List ℕ) → reading (map string_bytes words.now) ≡ Some r → IsSomeAnd (O.held outer.old) (λ files. files r.image ≡ Some file)
-        → result ≡ Status.Ended → ChangesText (O.said outer.old) (O.said outer.new) (Said (console (journal_of (setup_of file r.ram r.budget)))) }
+        → result ≡ Status.Ended → ChangesText (O.said outer.old) (O.said outer.new) (Said (console (journal_of (setup_of file r.harts r.ram r.budget) r.order))) }
     ensures held { O.held outer.new ≡ O.held outer.old }
     ensures said { O.said outer.new ≡ O.said outer.old }
 {
@@ -49,7 +49,7 @@ pub fn flex_top<O: Outer>(alloc: Global, words: &[String], outer: &mut O) -> Sta
         return Status::Usage;
     };
     match outer.take(command.image, IMAGE_LIMIT) {
-        Ok(file) => solo(alloc, &command, &file, outer),
+        Ok(file) => solo(alloc, &command, file, outer),
         Err(TakeFault::Failed) => Status::ReadFault,
         Err(TakeFault::TooLong(n)) => Status::ImageRefused(ImageFault::TooLong(n)),
         Err(TakeFault::OutOfMemory) => Status::OutOfMemory,

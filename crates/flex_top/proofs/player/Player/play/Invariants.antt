@@ -1,15 +1,14 @@
--- Each round is one end, so the rounds last.
-use Rattle.std.proofs.Common.{◌≡◌}
+-- Each round makes one more end of each hart.
+use Rattle.std.proofs.Common.{ℕ, ◌-◌, map}
 use Rattle.flex_base.specs.Setup.{Setup}
-use Rattle.flex_base.specs.Unsplit.{begin}
-use Rattle.hart_story.specs.declared.progress.Progress.TheVariants as progress
-use Rattle.flex_top.specs.Play.{IsAt}
-use Rattle.flex_top.proofs.Rounds.{Playing}
+use Rattle.flex_base.specs.Unsplit.{Machine, begin, hart_numbers}
+use Rattle.flex_base.specs.Rounds.{repeated, most_rounds}
+use Rattle.flex_top.specs.Words.{hart_of}
+use Rattle.flex_top.specs.Play.{IsAt, Playing, AllMade}
 use Rattle.flex_top.proofs.player.Player.play.Given as goal
 
 abbrev pub invariant-rounds : goal.invariant-rounds
 invariant-rounds l = record {
-  begun : l.self.progress ≡ progress.Begun;
-  ends : l.self.hart.ends ≡ l.counter;
-  playing : (setup : Setup) → IsAt setup (begin setup) l.fn.self l.fn.memory → Playing setup l.self l.memory l.counter;
+  playing : (setup : Setup) → IsAt setup (begin setup) l.fn.self → Playing setup (map hart_of l.order) l.self (repeated (most_rounds setup - l.counter) (hart_numbers setup));
+  made : AllMade l.counter l.self;
 }

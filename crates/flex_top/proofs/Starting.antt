@@ -1,0 +1,74 @@
+-- The player at its start stands for the beginning of the machine.
+use Rattle.std.proofs.Common.{◌≡◌, ℕ, ◌+◌, ◌<◌, ◌≤◌, true, Bool, ◌&&◌, List, [], length, get_or, refl, ap, sym, subst, ◌∙◌, arith}
+use Rattle.std.proofs.lemmas.Bool.Decides.{nat_tests}
+use Rattle.std.proofs.lemmas.List.{length-replicate}
+use Rattle.std.proofs.lemmas.List.FromFn.{get_or-map-range_with_len, length-map-range_with_len}
+use Rattle.flex_base.specs.Place.{ram_base}
+use Rattle.flex_base.specs.Limits.{is_lawful, mebibyte}
+use Rattle.flex_base.specs.Word.{is_multiple}
+use Rattle.flex_base.specs.Setup.{Setup}
+use Rattle.flex_base.specs.State.{start}
+use Rattle.flex_base.specs.Classes.{default_plan}
+use Rattle.flex_base.specs.Unsplit.{Half, half_of, half_at, begin}
+use Rattle.flex_base.specs.Split.{Parted}
+use Rattle.flex_base.specs.declared.class.Class.TheVariants as class
+use Rattle.flex_base.specs.declared.settings.Layout.{Layout}
+use Rattle.flex_base.specs.declared.settings.Settings.{Settings}
+use Rattle.hart_story.specs.Progressing.{IsIn, IsSoundProgress, node, is_retired}
+use Rattle.hart_story.specs.declared.hart.Hart.{Hart}
+use Rattle.hart_story.specs.declared.progress.Progress.{Progress}
+use Rattle.mem_lines.specs.Bank.{Bank}
+use Rattle.flex_top.specs.Answer.{setup_of}
+use Rattle.flex_top.specs.Memory.{Keeps}
+use Rattle.flex_top.specs.Play.{IsHart, IsAt, IsStarted, progress_at}
+use Rattle.flex_top.specs.declared.player.Player.{Player}
+use Rattle.flex_top.proofs.Writing.{parted_none}
+
+-- each hart of the machine begins at the entry
+half_at-begin : (setup : Setup) (h : ℕ) → h < setup.harts → half_at (begin setup) h ≡ half_of (start h setup.image.entry)
+half_at-begin setup h below =
+    let from : 0 + h ≡ h = omega arith in
+    get_or-map-range_with_len (λ k. half_of (start k setup.image.entry)) 0 setup.harts h h (half_of (start h 0)) below from
+
+lawful_some : (settings : Settings) → is_lawful settings ≡ true → 0 < settings.harts
+lawful_some settings lawful = grind (arith, nat_tests)
+
+lawful_few : (settings : Settings) → is_lawful settings ≡ true → settings.harts ≤ 32
+lawful_few settings lawful = grind (arith, nat_tests)
+
+lawful_whole : (settings : Settings) → is_lawful settings ≡ true → is_multiple settings.ram mebibyte ≡ true
+lawful_whole settings lawful = grind (arith, nat_tests)
+
+pub starts : (file : List ℕ) (settings : Settings) (player : Player) (bank : Bank) → is_lawful settings ≡ true
+    → IsStarted player (record { harts = settings.harts; ram = settings.ram }) settings.budget ram_base bank
+    → Keeps (setup_of file settings.harts settings.ram settings.budget) [] bank
+    → IsAt (setup_of file settings.harts settings.ram settings.budget) (begin (setup_of file settings.harts settings.ram settings.budget)) player
+starts file settings player bank lawful begins keeps =
+    let setup = setup_of file settings.harts settings.ram settings.budget in
+    let Whole : Layout → Type 0 = λ l. is_multiple l.ram mebibyte ≡ true in
+    let Kept : Bank → Type 0 = λ b. Keeps setup [] b in
+    let each = λ (h : ℕ) (other : Hart) (below : h < setup.harts).
+        let hart = get_or player.harts.items h other in
+        let Sound : Progress → Type 0 = λ p. IsSoundProgress player.layout hart p in
+        let there : IsIn setup (start h ram_base) [] hart (progress_at player h) player.layout player.budget = record {
+          of = record { harts = ap (λ l. l.harts) (sym begins.layout_is); ram = ap (λ l. l.ram) (sym begins.layout_is); budget = sym begins.budget_is; whole = subst Whole (sym begins.layout_is) (lawful_whole settings lawful) };
+          stands = begins.harts.each h other below;
+          fit = record { aligned = refl; within = omega arith; reserved = tt };
+          reached = ap (node setup (start h ram_base)) (sym (begins.progress.1 h));
+          sound = subst Sound (sym (begins.progress.1 h)) tt;
+        } in
+        let AtHalf : Half → Type 0 = λ x. IsIn setup x.state x.replies hart (progress_at player h) player.layout player.budget in
+        let in_story = subst AtHalf (sym (half_at-begin setup h below)) there in
+        let first : IsHart setup (begin setup) h hart (progress_at player h) player.layout player.budget = record { in_story = in_story; spent = sym (ap is_retired (begins.progress.1 h)) } in
+        first in
+    record {
+      some = lawful_some settings lawful;
+      few = lawful_few settings lawful;
+      halves = length-map-range_with_len (λ h. half_of (start h ram_base)) 0 setup.harts;
+      harts = begins.harts.size;
+      progress = begins.progress.0;
+      engines = ap (λ (p : Parted). length p.engines) begins.run ∙ length-replicate settings.harts (default_plan class.Fetch);
+      each = each;
+      run = parted_none default_plan setup.harts ∙ sym begins.run;
+      memory = subst Kept (sym begins.lines) keeps;
+    }

@@ -1,0 +1,6 @@
+use Rattle.flex_top.specs.Play.{AreStarted}
+use Rattle.flex_top.proofs.player.started.Given as goal
+
+-- so many harts are made
+abbrev pub invariant-loop-h : goal.invariant-loop-h
+invariant-loop-h l = AreStarted l.entry l.h l.harts.items
