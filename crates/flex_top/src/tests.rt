@@ -1,3 +1,5 @@
+mod programs;
+
 use super::*;
 use flex_base::{MemoryOuter, Text};
 use std::alloc::{AllocError, Global};
@@ -151,7 +153,8 @@ fn answers_by_the_words(rt: HostRuntime) -> Result<(), AllocError> {
         ("solo none out --ram=1 --budget=3", Status::ReadFault),
         ("run img out --ram=1 --budget=3", Status::Usage),
         ("solo img out --ram=1 --budget=262145", Status::Usage),
-        ("solo img out --budget=3 --ram=1", Status::Usage),
+        ("solo img out --budget=3 --ram=1", Status::Ended),
+        ("solo img out --ram=1 --ram=1", Status::Usage),
         ("", Status::Usage),
     ] {
         assert_words(&rt, rt.alloc(), line, status)?;

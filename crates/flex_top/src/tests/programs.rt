@@ -79,9 +79,10 @@ const BY_PETERSON: [u32; 21] = [
     0x0082a023, 0x00060023, 0xfff38393, 0xfc039ae3, 0x0000006f,
 ];
 
-// An order of two harts: by its number, they take turns of that many events, or of pseudorandom lengths from 6 on.
-fn order_of(alloc: Global, number: u64) -> Result<String, AllocError> {
-    let mut order = String::from_str(alloc, "solo img out --harts=2 --ram=1 --budget=600 --order=")?;
+// The words for a run of two harts in the order of this number: they take turns of that many events, and from number 6 on
+// of pseudorandom lengths.
+fn line_of(alloc: Global, number: u64) -> Result<String, AllocError> {
+    let mut line = String::from_str(alloc, "solo img out --harts=2 --ram=1 --budget=600 --order=")?;
     let mut state = number;
     for i in 0..3000 {
         state = (1_103_515_245 * state + 12_345) % 2_147_483_648;
@@ -90,9 +91,9 @@ fn order_of(alloc: Global, number: u64) -> Result<String, AllocError> {
         } else {
             state / 65_536 % 2 == 1
         };
-        order.push(if second { '1' } else { '0' })?;
+        line.push(if second { '1' } else { '0' })?;
     }
-    Ok(order)
+    Ok(line)
 }
 
 #[test]
@@ -113,7 +114,7 @@ fn loses_no_update(rt: HostRuntime) -> Result<(), Fail> {
 
 // That the run in the order of this number comes to this event.
 fn assert_last(rt: &impl Abort, alloc: Global, image: &[u8], number: u64, last: &str) -> Result<(), AllocError> {
-    let line = order_of(alloc, number)?;
+    let line = line_of(alloc, number)?;
     let (status, outer) = run(alloc, image, &line, &[])?;
     assert_eq!(rt; status, Status::Ended);
     let text = str::from_utf8(outer.written("out").unwrap_or(b"")).unwrap_or("");
