@@ -154,7 +154,7 @@ returns-in-Unbuilt-clause-after c = λ setup u at.
     let unbuilt = told_unbuilt (want_of setup u h) told in
     let begins = turn_of-begins setup u h (unbuilt_busy (want_of setup u h) unbuilt) in
     let hart = c.index-in-Unbuilt.result.now in
-    let Of : Hart → Type 0 = λ x. (half_at u h).state.pc ≡ x.pc in
+    let Of : Hart → Type 0 = λ x. (half_at u h).state.pc ≡ x.regs.pc in
     let pc = subst Of (sym c.index-in-Unbuilt.ensures) (sym (at.each h hart below).in_story.stands.pc) in
     record {
       unbuilt = unbuilt_here setup u h below unbuilt ∙ ap Some pc;
