@@ -11,7 +11,7 @@ pub(crate) struct Reservations {
     places: [Option<u64>; 32],
     // How many reservations stand.
     standing: u64,
-    // Above each hart that has reserved something.
+    // Each hart that has reserved something is below this one.
     harts: u8,
 }
 
@@ -48,6 +48,7 @@ impl Reservations {
         }
     }
 
+    // A load-reserved by this hart: its earlier reservation is gone.
     pub(crate) fn reserve(&mut self, hart: u8, granule: u64)
         requires { hart < 32 }
         ensures { (h : ℕ) → slice_index_or self.new h None ≡ (if h == hart then Some granule else slice_index_or self.old h None) }
