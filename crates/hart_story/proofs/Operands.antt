@@ -1,5 +1,5 @@
 -- The operands that the decoder gives.
-use Rattle.std.proofs.Common.{◌≡◌, ℕ, ◌<◌, ◌^◌, Bool, true, false, if◌then◌else◌, List, [], ◌∷◌, Some, find, refl, arith}
+use Rattle.std.proofs.Common.{◌≡◌, ℕ, Bool, true, false, if◌then◌else◌, List, [], ◌∷◌, Some, find, refl, arith}
 use Rattle.flex_base.specs.Word.{field}
 use Rattle.flex_base.specs.Decoding.{Row, rows, fits_row, made_by, decoded, rd_of, rs1_of, rs2_of}
 use Rattle.hart_story.specs.Operands.{HasOperands, IsRegister}
