@@ -1,5 +1,5 @@
 -- A hart at the beginning of an instruction is in a story, in a run of its layout and budget.
-use Rattle.std.proofs.Common.{◌≡◌, ℕ, true, [], refl, sym, ap, subst}
+use Rattle.std.proofs.Common.{◌≡◌, ℕ, [], refl, sym, ap, subst}
 use Rattle.flex_base.specs.Word.{is_multiple}
 use Rattle.flex_base.specs.Setup.{Setup}
 use Rattle.flex_base.specs.Limits.{mebibyte}

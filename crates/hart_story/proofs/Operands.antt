@@ -1,8 +1,7 @@
 -- The operands that the decoder gives.
-use Rattle.std.proofs.Common.{◌≡◌, ℕ, ◌<◌, ◌^◌, Bool, true, false, if◌then◌else◌, List, [], ◌∷◌, Some, find, refl, arith}
+use Rattle.std.proofs.Common.{◌≡◌, ℕ, Bool, true, false, if◌then◌else◌, List, [], ◌∷◌, Some, find, refl, arith}
 use Rattle.flex_base.specs.Word.{field}
 use Rattle.flex_base.specs.Decoding.{Row, rows, fits_row, made_by, decoded, rd_of, rs1_of, rs2_of}
-use Rattle.flex_base.specs.Forms.{IsWidth, IsAtomicWidth}
 use Rattle.hart_story.specs.Operands.{HasOperands, IsRegister}
 
 -- each row's operation has its operands, whatever the word
@@ -24,13 +23,8 @@ rows_have word =
     let rd : IsRegister (rd_of word) = field_below 7 word in
     let rs1 : IsRegister (rs1_of word) = field_below 15 word in
     let rs2 : IsRegister (rs2_of word) = field_below 20 word in
-    let byte : IsWidth 1 = refl in
-    let half : IsWidth 2 = refl in
-    let word_wide : IsWidth 4 = refl in
-    let double : IsWidth 8 = refl in
-    let atomic_word : IsAtomicWidth 4 = refl in
-    let atomic_double : IsAtomicWidth 8 = refl in
-    assumption (rd, rs1, rs2, byte, half, word_wide, double, atomic_word, atomic_double)
+    let width : true ≡ true = refl in
+    assumption (rd, rs1, rs2, width)
 
 pub decoded_operands : (word : ℕ) → HasOperands (decoded word)
 unfolding decoded

@@ -1,8 +1,8 @@
 -- The aligned 8 bytes round an address of RAM lie in RAM, which is whole MiB.
-use Rattle.std.proofs.Common.{◌≡◌, ℕ, ◌+◌, ◌-◌, ◌*◌, ◌/◌, ◌%◌, ◌≤◌, ◌<◌, Bool, true, ◌&&◌, Some, nat_le, arith}
+use Rattle.std.proofs.Common.{◌≡◌, ℕ, true, Some, arith}
 use Rattle.flex_base.specs.Word.{is_multiple}
 use Rattle.flex_base.specs.Limits.{mebibyte}
-use Rattle.flex_base.specs.Place.{in_ram, ram_base}
+use Rattle.flex_base.specs.Place.{in_ram}
 use Rattle.flex_base.specs.Forms.{IsAtomicWidth}
 use Rattle.flex_base.specs.FlatMemory.{granule}
 use Rattle.hart_story.specs.Telling.{IsReservation}

@@ -183,8 +183,6 @@ fn makes_instructions(rt: HostRuntime) {
     assert_eq!(rt; hart, Hart { regs });
 }
 
-const MINUS_1: u64 = 0xffff_ffff_ffff_ffff;
-
 // `x6` and `x7` are addresses in different lines, `x8` lies in the 8 bytes of `x6`, and `x5` is what
 // is written.
 fn hart_of_atomics() -> Hart {
@@ -213,62 +211,45 @@ fn assert_made(rt: &impl Abort, hart: &mut Hart, table: &[(u32, u64, Need, u64)]
 
 #[test]
 fn ends_what_it_computed_or_accessed(rt: HostRuntime) {
-    let mut hart = hart_of_atomics();
+    ends_computations_and_loads(&rt);
+    ends_atomics(&rt);
+    ends_without_a_register(&rt);
+}
+
+#[rattlefmt::skip]
+fn ends_computations_and_loads(rt: &impl Abort) {
     let muldiv = Need::Finish(Class::Muldiv);
-    let concluded = Need::Finish(Class::Atomic);
     let table = [
         // mulw x10, x11, x12, mul x10, x9, x13, divu x10, x9, x13 and divu x10, x9, x0
         (0x02c5853b, 0, muldiv, 0xffff_ffff_8000_0003),
         (0x02d48533, 0, muldiv, 0x8000_0000_0000_0000),
         (0x02d4d533, 0, muldiv, 0x2aaa_aaaa_aaaa_aaaa),
-        (0x0204d533, 0, muldiv, MINUS_1),
+        (0x0204d533, 0, muldiv, 0xffff_ffff_ffff_ffff),
         // lb, lh, lw, ld, lbu, lhu and lwu x10, 0(x6)
-        (
-            0x00030503,
-            0x80,
-            read(0x8000_0100, 1),
-            0xffff_ffff_ffff_ff80,
-        ),
-        (
-            0x00031503,
-            0x8001,
-            read(0x8000_0100, 2),
-            0xffff_ffff_ffff_8001,
-        ),
-        (
-            0x00032503,
-            0x8000_0002,
-            read(0x8000_0100, 4),
-            0xffff_ffff_8000_0002,
-        ),
-        (
-            0x00033503,
-            0x8000_0000_0000_0003,
-            read(0x8000_0100, 8),
-            0x8000_0000_0000_0003,
-        ),
+        (0x00030503, 0x80, read(0x8000_0100, 1), 0xffff_ffff_ffff_ff80),
+        (0x00030503, 0x7f, read(0x8000_0100, 1), 0x7f),
+        (0x00031503, 0x8001, read(0x8000_0100, 2), 0xffff_ffff_ffff_8001),
+        (0x00032503, 0x8000_0002, read(0x8000_0100, 4), 0xffff_ffff_8000_0002),
+        (0x00033503, 0x8000_0000_0000_0003, read(0x8000_0100, 8), 0x8000_0000_0000_0003),
         (0x00034503, 0x80, read(0x8000_0100, 1), 0x80),
         (0x00035503, 0x8001, read(0x8000_0100, 2), 0x8001),
         (0x00036503, 0x8000_0002, read(0x8000_0100, 4), 0x8000_0002),
-        (0x00030503, 0x7f, read(0x8000_0100, 1), 0x7f),
+    ];
+    assert_made(rt, &mut hart_of_atomics(), table.as_slice());
+}
+
+#[rattlefmt::skip]
+fn ends_atomics(rt: &impl Abort) {
+    let concluded = Need::Finish(Class::Atomic);
+    let table = [
         // sc.w x10, x5, (x6), with no reservation
         (0x1853252f, 0, concluded, 1),
         // lr.w x10, (x6), sc.d x10, x5, (x6) and sc.d again
-        (
-            0x1003252f,
-            0x8000_0000,
-            lr(0x8000_0100, 4),
-            0xffff_ffff_8000_0000,
-        ),
+        (0x1003252f, 0x8000_0000, lr(0x8000_0100, 4), 0xffff_ffff_8000_0000),
         (0x1853352f, 0, sc(0x8000_0100, 8, 0x0123_4567_89ab_cdef), 0),
         (0x1853352f, 0, concluded, 1),
         // lr.d x10, (x6), and sc.w x10, x5, (x8), which another hart's write makes fail
-        (
-            0x1003352f,
-            0x8000_0000_0000_0000,
-            lr(0x8000_0100, 8),
-            0x8000_0000_0000_0000,
-        ),
+        (0x1003352f, 0x8000_0000_0000_0000, lr(0x8000_0100, 8), 0x8000_0000_0000_0000),
         (0x1854252f, 1, sc(0x8000_0104, 4, 0x89ab_cdef), 1),
         // lr.w x10, (x6), lr.w x10, (x7), sc.w x10, x5, (x6) and sc.w x10, x5, (x7)
         (0x1003252f, 1, lr(0x8000_0100, 4), 1),
@@ -277,26 +258,23 @@ fn ends_what_it_computed_or_accessed(rt: HostRuntime) {
         (0x1853a52f, 0, concluded, 1),
         // lr.w x10, (x8), amomax.w x10, x5, (x6), and sc.w x10, x5, (x6)
         (0x1004252f, 3, lr(0x8000_0104, 4), 3),
-        (
-            0xa053252f,
-            0x8000_0004,
-            amo_max(0x8000_0100, 0x89ab_cdef),
-            0xffff_ffff_8000_0004,
-        ),
+        (0xa053252f, 0x8000_0004, amo_max(0x8000_0100, 0x89ab_cdef), 0xffff_ffff_8000_0004),
         (0x1853252f, 0, sc(0x8000_0100, 4, 0x89ab_cdef), 0),
     ];
-    assert_made(&rt, &mut hart, table.as_slice());
-    assert_eq!(rt; hart.regs.ends, 25);
+    let mut hart = hart_of_atomics();
+    assert_made(rt, &mut hart, table.as_slice());
+    assert_eq!(rt; hart.regs.ends, 13);
     assert_eq!(rt; hart.regs.reservation, None);
-    // sw x5, 0(x6) and amoadd.d x0, x5, (x7) write no register.
+}
+
+fn ends_without_a_register(rt: &impl Abort) {
+    let mut hart = hart_of_atomics();
+    let before = hart.regs.x;
+    // sw x5, 0(x6) and amoadd.d x0, x5, (x7)
     for (word, class) in [(0x00532023, Class::Store), (0x0053b02f, Class::Atomic)] {
-        let before = hart.regs.x;
-        let (_, part) = make(&rt, &mut hart, word, 0);
-        assert_eq!(rt;
-            (part.class, part.first, part.second),
-            (class, 0, 0),
-            "{word:x}"
-        );
+        let (_, part) = make(rt, &mut hart, word, 0);
+        let ended = (part.class, part.first, part.second);
+        assert_eq!(rt; ended, (class, 0, 0), "{word:x}");
         assert_eq!(rt; hart.regs.x, before, "{word:x}");
     }
 }

@@ -1,5 +1,5 @@
 -- The end is what the instruction has come to.
-use Rattle.std.proofs.Common.{◌≡◌, ◌+◌, ℕ, true, Option, ap, sym, subst, ◌∙◌, arith}
+use Rattle.std.proofs.Common.{◌≡◌, ◌+◌, ℕ, Option, ap, sym, subst, ◌∙◌, arith}
 use Rattle.flex_base.specs.Word.{is_multiple}
 use Rattle.flex_base.specs.State.{State, set_reg}
 use Rattle.flex_base.specs.Story.{Ends, want}
