@@ -1,3 +1,4 @@
+mod Completing
 pub mod WordsLemmas
 pub mod HexDigits
 pub mod Banks

@@ -220,9 +220,8 @@ some_hart (hart ∷ xs) some = hart
 retired_is : (far : Progress) → is_retired far ≡ true → far ≡ progress.Retired
 retired_is progress.Retired e = refl
 retired_is progress.Begun e = absurd cc
-retired_is progress.Pulsed e = absurd cc
-retired_is (progress.Fetched word) e = absurd cc
-retired_is (progress.Answered word value) e = absurd cc
+retired_is (progress.Pulsed lines) e = absurd cc
+retired_is (progress.Working lines made) e = absurd cc
 
 -- a hart that stands for a state has the state's budget
 pub budget_is : (setup : Setup) (u : Machine) (player : Player) → IsAt setup u player → setup.budget ≡ player.budget

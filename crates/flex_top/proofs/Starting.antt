@@ -12,9 +12,11 @@ use Rattle.flex_base.specs.Classes.{default_plan}
 use Rattle.flex_base.specs.Unsplit.{Half, half_of, half_at, begin}
 use Rattle.flex_base.specs.Split.{Parted}
 use Rattle.flex_base.specs.declared.class.Class.TheVariants as class
+use Rattle.flex_base.specs.declared.settings.Layout.{Layout}
 use Rattle.flex_base.specs.declared.settings.Settings.{Settings}
-use Rattle.hart_story.specs.Progressing.{IsIn, node, is_retired}
+use Rattle.hart_story.specs.Progressing.{IsIn, IsSoundProgress, node, is_retired}
 use Rattle.hart_story.specs.declared.hart.Hart.{Hart}
+use Rattle.hart_story.specs.declared.progress.Progress.{Progress}
 use Rattle.mem_lines.specs.Bank.{Bank}
 use Rattle.flex_top.specs.Answer.{setup_of}
 use Rattle.flex_top.specs.Memory.{Keeps}
@@ -34,20 +36,26 @@ lawful_some settings lawful = grind (arith, nat_tests)
 lawful_few : (settings : Settings) → is_lawful settings ≡ true → settings.harts ≤ 32
 lawful_few settings lawful = grind (arith, nat_tests)
 
+lawful_whole : (settings : Settings) → is_lawful settings ≡ true → is_multiple settings.ram mebibyte ≡ true
+lawful_whole settings lawful = grind (arith, nat_tests)
+
 pub starts : (file : List ℕ) (settings : Settings) (player : Player) (bank : Bank) → is_lawful settings ≡ true
     → IsStarted player (record { harts = settings.harts; ram = settings.ram }) settings.budget ram_base bank
     → Keeps (setup_of file settings.harts settings.ram settings.budget) [] bank
     → IsAt (setup_of file settings.harts settings.ram settings.budget) (begin (setup_of file settings.harts settings.ram settings.budget)) player
 starts file settings player bank lawful begins keeps =
     let setup = setup_of file settings.harts settings.ram settings.budget in
+    let Whole : Layout → Type 0 = λ l. is_multiple l.ram mebibyte ≡ true in
     let Kept : Bank → Type 0 = λ b. Keeps setup [] b in
     let each = λ (h : ℕ) (other : Hart) (below : h < setup.harts).
     let hart = get_or player.harts.items h other in
+    let Sound : Progress → Type 0 = λ p. IsSoundProgress player.layout hart p in
     let there : IsIn setup (start h ram_base) [] hart (progress_at player h) player.layout player.budget = record {
-      of = record { harts = ap (λ l. l.harts) (sym begins.layout_is); ram = ap (λ l. l.ram) (sym begins.layout_is); budget = sym begins.budget_is };
+      of = record { harts = ap (λ l. l.harts) (sym begins.layout_is); ram = ap (λ l. l.ram) (sym begins.layout_is); budget = sym begins.budget_is; whole = subst Whole (sym begins.layout_is) (lawful_whole settings lawful) };
       stands = begins.harts.each h other below;
       fit = record { aligned = refl; within = omega arith; reserved = tt };
       reached = ap (node setup (start h ram_base)) (sym (begins.progress.1 h));
+      sound = subst Sound (sym (begins.progress.1 h)) tt;
     } in
     let AtHalf : Half → Type 0 = λ x. IsIn setup x.state x.replies hart (progress_at player h) player.layout player.budget in
     let in_story = subst AtHalf (sym (half_at-begin setup h below)) there in

@@ -1,5 +1,5 @@
 -- What `solo` answers, and what it writes.
-use Rattle.std.specs.Prelude.{◌≡◌, ℕ, Bool, true, false, ◌&&◌, ◌==◌, if◌then◌else◌, nat_lt, List, [], ◌∷◌, length, Option, None, Some}
+use Rattle.std.specs.Prelude.{◌≡◌, ℕ, ◌-◌, ◌^◌, ◌<◌, ◌⊎◌, Bool, true, false, ◌&&◌, ◌==◌, if◌then◌else◌, nat_lt, List, [], ◌∷◌, length, Option, None, Some}
 use Rattle.flex_base.specs.Place.{ram_base}
 use Rattle.flex_base.specs.Loaded.{Loaded}
 use Rattle.flex_base.specs.Setup.{Setup}
@@ -55,6 +55,14 @@ IsAnswer expected status.ReadFault = Unit {0}
 IsAnswer expected status.OutOfMemory = Unit {0}
 IsAnswer expected status.WriteFault = expected ≡ status.Ended
 IsAnswer expected answer = answer ≡ expected
+
+-- a count of faults that doesn't rise and is below its end
+abbrev pub IsCalm : ℕ → ℕ → Type 0
+IsCalm before now = (now ≡ before) × (now < 2 ^ 64 - 1)
+
+-- the trace was written, or memory ran out
+abbrev pub IsEnded : Status → Type 0
+IsEnded answer = (answer ≡ status.Ended) ⊎ (answer ≡ status.OutOfMemory)
 
 -- the answer for an image of this name, if there is one
 abbrev pub Answers : Option (List ℕ) → ℕ → ℕ → ℕ → List ℕ → Status → Type 0

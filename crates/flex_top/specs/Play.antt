@@ -22,7 +22,7 @@ use Rattle.flex_top.specs.declared.player.Step.TheVariants as step_of
 
 -- how many instructions and traps of a hart have ended
 abbrev pub ends_of : Hart → ℕ
-ends_of hart = hart.ends
+ends_of hart = hart.regs.ends
 
 -- how far the hart of this number is in its instruction
 abbrev pub progress_at : Player → ℕ → Progress

@@ -99,7 +99,7 @@ impl Player {
                 Ok(Step::Ended)
             }
             Need::Over => Ok(Step::Over),
-            Need::Unbuilt => Ok(Step::Unbuilt(self.harts[h].pc)),
+            Need::Unbuilt => Ok(Step::Unbuilt(self.harts[h].regs.pc)),
         }
     }
 

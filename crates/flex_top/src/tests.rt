@@ -1,3 +1,5 @@
+mod programs;
+
 use super::*;
 use flex_base::{MemoryOuter, Text};
 use std::alloc::{AllocError, Global};
@@ -188,12 +190,11 @@ fn answers_by_the_words(rt: HostRuntime) -> Result<(), AllocError> {
         ("run img out --ram=1 --budget=3", Status::Usage),
         ("solo img out --ram=1 --budget=262145", Status::Usage),
         ("solo img out --budget=3 --ram=1", Status::Ended),
+        ("solo img out --ram=1 --ram=1", Status::Usage),
         (
             "solo img out --harts=32 --ram=1 --budget=3 --order=v0v1",
             Status::Ended,
         ),
-        ("solo img out --harts=33 --ram=1 --budget=3", Status::Usage),
-        ("solo img out --order=w", Status::Usage),
         ("", Status::Usage),
     ] {
         assert_words(&rt, rt.alloc(), line, status)?;

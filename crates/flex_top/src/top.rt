@@ -2,7 +2,7 @@ ghost use Rattle.std.specs.Prelude.{◌≡◌, ◌≢◌, ◌↔◌, List, ℕ, 
 ghost use Rattle.flex_base.specs.Files.{Counts, ChangesFile, ChangesText, Said};
 ghost use Rattle.flex_base.specs.Journal.{console};
 ghost use Rattle.flex_top.specs.Words.{Reading, reading};
-ghost use Rattle.flex_top.specs.Answer.{setup_of, Answers, IsWhole, journal_of, trace_of};
+ghost use Rattle.flex_top.specs.Answer.{setup_of, expected, IsCalm, IsEnded, Answers, IsWhole, journal_of, trace_of};
 ghost use Rattle.flex_top.specs.Written.{Becomes, BecomesPart};
 
 use crate::solo::solo;
@@ -26,6 +26,9 @@ pub fn flex_top<O: Outer>(alloc: Global, words: &[String], outer: &mut O) -> Sta
     ensures read_fault { Counts (O.read_faults outer.old) (O.read_faults outer.new) (result ≡ Status.ReadFault) }
     ensures write_fault { Counts (O.write_faults outer.old) (O.write_faults outer.new) (result ≡ Status.WriteFault) }
     ensures answer { (r : Reading) → reading (map string_bytes words.now) ≡ Some r → IfSome (O.held outer.old) (λ files. Answers (files r.image) r.harts r.ram r.budget r.order result) }
+
+    ensures complete { (r : Reading) (file : List ℕ) → reading (map string_bytes words.now) ≡ Some r → IsSomeAnd (O.held outer.old) (λ files. files r.image ≡ Some file) → expected file r.harts r.ram r.budget r.order ≡ Status.Ended
+        → IsCalm (O.read_faults outer.old) (O.read_faults outer.new) → IsCalm (O.write_faults outer.old) (O.write_faults outer.new) → IsEnded result }
 
     // What is written: the trace of the order and then the rounds, split by the default plan.
     ensures trace { (r : Reading) (file : List ℕ) → reading (map string_bytes words.now) ≡ Some r → IsSomeAnd (O.held outer.old) (λ files. files r.image ≡ Some file)

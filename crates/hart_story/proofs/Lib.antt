@@ -1,4 +1,5 @@
 pub mod Asking
 pub mod Beginning
+pub mod Operands
+pub mod Reserving
 pub mod Told
-pub mod Widths

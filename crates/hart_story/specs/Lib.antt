@@ -1,3 +1,4 @@
 pub mod StandsFor
+pub mod Operands
 pub mod Progressing
 pub mod Telling

@@ -1,32 +1,34 @@
 -- How far a hart in the code has come in the story of its instruction.
 use Rattle.std.specs.Prelude.{◌≡◌, ℕ, Bool, true, false, List}
+use Rattle.flex_base.specs.Word.{is_multiple}
+use Rattle.flex_base.specs.Limits.{mebibyte}
 use Rattle.flex_base.specs.Setup.{Setup}
 use Rattle.flex_base.specs.State.{State, IsFit}
-use Rattle.flex_base.specs.Decoding.{decoded}
-use Rattle.flex_base.specs.FlatMemory.{reply_with}
-use Rattle.flex_base.specs.Story.{Want, Asks, Ends, Story, Closes, StaysOver, story, works, goes, ask, fetches, after_one}
+use Rattle.flex_base.specs.Story.{Want, Asks, Ends, Story, Closes, StaysOver, story, goes, ask, fetches}
 use Rattle.flex_base.specs.Built.{is_built_access, is_built_class}
 use Rattle.flex_base.specs.declared.access.Access.{Access}
 use Rattle.flex_base.specs.declared.access.Reply.{Reply}
 use Rattle.flex_base.specs.declared.event.EndPart.{EndPart}
 use Rattle.flex_base.specs.declared.settings.Layout.{Layout}
 use Rattle.hart_story.specs.StandsFor.{StandsFor}
+use Rattle.hart_story.specs.Telling.{outcome_of, IsSoundOutcome}
 use Rattle.hart_story.specs.declared.hart.Hart.{Hart}
+use Rattle.hart_story.specs.declared.outcome.Outcome.TheVariants as outcome
 use Rattle.hart_story.specs.declared.progress.Progress.{Progress}
 use Rattle.hart_story.specs.declared.progress.Progress.TheVariants as progress
 
--- a run of this layout and budget
+-- a run of this layout and budget; RAM is whole MiB
 pub record IsOf (setup : Setup) (layout : Layout) (most : ℕ) : Type 0 where
   pub harts : setup.harts ≡ layout.harts
   pub ram : setup.ram ≡ layout.ram
   pub budget : setup.budget ≡ most
+  pub whole : is_multiple layout.ram mebibyte ≡ true
 
 -- where the hart is in the story of an instruction that began in this state
 abbrev pub node : Setup → State → Progress → Story
 node setup a progress.Begun = story setup a
-node setup a progress.Pulsed = fetches setup a
-node setup a (progress.Fetched word) = works setup a (decoded word)
-node setup a (progress.Answered word value) = after_one (works setup a (decoded word)) (reply_with value)
+node setup a (progress.Pulsed lines) = fetches setup (record a { lines = lines })
+node setup a (progress.Working lines made) = outcome_of (record a { lines = lines }) made
 node setup a progress.Retired = StaysOver
 
 -- the replies lead to where the hart is
@@ -41,10 +43,15 @@ is_retired other = false
 -- how many accesses may still come before the end
 abbrev pub left : Progress → ℕ
 left progress.Begun = 3
-left progress.Pulsed = 2
-left (progress.Fetched word) = 1
-left (progress.Answered word value) = 0
+left (progress.Pulsed lines) = 2
+left (progress.Working lines (outcome.Ask access signed rd)) = 1
+left (progress.Working lines other) = 0
 left progress.Retired = 0
+
+-- what the instruction comes to so far is sound
+abbrev pub IsSoundProgress : Layout → Hart → Progress → Type 0
+IsSoundProgress layout hart (progress.Working lines made) = IsSoundOutcome layout hart made
+IsSoundProgress layout hart other = Unit {0}
 
 -- the hart and its progress stand for this state and these replies, in a run of this layout and budget
 pub record IsIn (setup : Setup) (a : State) (replies : List Reply) (hart : Hart) (progress : Progress) (layout : Layout) (budget : ℕ) : Type 0 where
@@ -52,6 +59,7 @@ pub record IsIn (setup : Setup) (a : State) (replies : List Reply) (hart : Hart)
   pub stands : StandsFor hart a
   pub fit : IsFit setup.ram setup.budget a
   pub reached : Reached setup a progress replies
+  pub sound : IsSoundProgress layout hart progress
 
 -- the hart asks for this access, which is built
 pub record IsAsking (setup : Setup) (a : State) (replies : List Reply) (access : Access) : Type 0 where

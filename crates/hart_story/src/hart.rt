@@ -1,17 +1,14 @@
-ghost use Rattle.std.specs.Prelude.{◌≡◌};
+ghost use Rattle.std.specs.Prelude.{◌≡◌, ◌<◌};
 ghost use Rattle.flex_base.specs.State.{State, reg};
-ghost use Rattle.hart_story.specs.StandsFor.{StandsFor};
+ghost use Rattle.hart_story.specs.StandsFor.{Shows};
 
 use flex_base::HartId;
+use hart_state::Regs;
 
 /// A hart at the start of an instruction.
 #[derive(Clone, Copy, Debug, PartialEq, Eq)]
 pub struct Hart {
-    pub pc: u64,
-    /// The registers; `x[0]` is never read.
-    pub x: [u64; 32],
-    /// How many instructions and traps have ended.
-    pub ends: u64,
+    pub regs: Regs,
 }
 
 impl Hart {
@@ -23,22 +20,16 @@ impl Hart {
     pub fn start(hart: HartId, entry: u64) -> Hart
         ensures { StandsFor result (start hart.0 entry) }
     {
-        let mut x = [0; 32];
-        x[10] = hart.0 as u64;
         Hart {
-            pc: entry,
-            x,
-            ends: 0,
+            regs: Regs::start(hart, entry),
         }
     }
 }
 
 // The value of a register.
 pub(crate) fn read(hart: &Hart, r: u8) -> u64
-    ensures { (a : State) → StandsFor hart.now a → result ≡ reg a r }
+    requires { r < 32 }
+    ensures { (a : State) → Shows hart.now a → result ≡ reg a r }
 {
-    match r {
-        0 => 0,
-        _ => hart.x.get(r as usize).copied().unwrap_or(0),
-    }
+    hart.regs.get(r)
 }

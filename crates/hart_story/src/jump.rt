@@ -1,41 +1,43 @@
-ghost use Rattle.std.specs.Prelude.{◌≡◌};
+ghost use Rattle.std.specs.Prelude.{◌≡◌, ◌<◌};
 ghost use Rattle.flex_base.specs.State.{State};
 ghost use Rattle.flex_base.specs.Story.{jumps, branches, is_taken, even};
 ghost use Rattle.flex_base.specs.declared.settings.Layout.{Layout};
-ghost use Rattle.hart_story.specs.StandsFor.{StandsFor};
+ghost use Rattle.hart_story.specs.StandsFor.{Shows};
 ghost use Rattle.hart_story.specs.Telling.{outcome_of, IsSoundOutcome};
 
 use crate::hart::Hart;
+use crate::outcome::{End, Outcome};
 use crate::register::passed;
-use crate::work::Outcome;
 use flex_base::{BranchOp, Class};
 
 // A jump, which links the next instruction. To a misaligned address it is an exception, and those
 // aren't built yet.
 pub(crate) fn jump(hart: &Hart, target: u64, rd: u8) -> Outcome
-    ensures works { (a : State) → StandsFor hart.now a → outcome_of a result ≡ jumps a target rd }
+    requires { rd < 32 }
+    ensures works { (a : State) → Shows hart.now a → outcome_of a result ≡ jumps a target rd }
     ensures sound { (layout : Layout) → IsSoundOutcome layout hart.now result }
 {
     if target % 4 != 0 {
         return Outcome::Unbuilt;
     }
-    Outcome::End {
+    Outcome::End(End {
         class: Class::Jump,
         next: target,
         rd,
-        value: hart.pc.wrapping_add(4),
-    }
+        value: hart.regs.pc.wrapping_add(4),
+        reservation: hart.regs.reservation,
+    })
 }
 
 // A conditional branch on these two values.
 pub(crate) fn branch(hart: &Hart, op: BranchOp, x: u64, y: u64, target: u64) -> Outcome
-    ensures works { (a : State) → StandsFor hart.now a → outcome_of a result ≡ branches a (is_taken op x y) target }
+    ensures works { (a : State) → Shows hart.now a → outcome_of a result ≡ branches a (is_taken op x y) target }
     ensures sound { (layout : Layout) → IsSoundOutcome layout hart.now result }
 {
     if takes(op, x, y) {
         jump(hart, target, 0)
     } else {
-        passed(hart, Class::Jump)
+        Outcome::End(passed(hart, Class::Jump))
     }
 }
 

@@ -2,15 +2,20 @@
 //! and resumed with the reply; `need`, `give` and `finish` go along the story of the instruction.
 #![tactic(auto)]
 
+mod atomic;
 mod hart;
 mod jump;
 mod memory;
+mod outcome;
 mod progress;
 mod register;
+mod reply;
 mod story;
+mod width;
 mod work;
 
 pub use hart::Hart;
+pub use outcome::{End, Outcome};
 pub use progress::{Need, Progress};
 pub use story::{finish, give, need};
 

@@ -1,3 +1,4 @@
+use crate::outcome::Outcome;
 use flex_base::{Access, Class};
 
 /// How far an instruction has come.
@@ -5,12 +6,10 @@ use flex_base::{Access, Class};
 pub enum Progress {
     /// Nothing has happened yet.
     Begun,
-    /// The pulse that was due has happened.
-    Pulsed,
-    /// This word was fetched.
-    Fetched(u32),
-    /// This word was fetched, and its access was replied with this value.
-    Answered(u32, u64),
+    /// The pulse that was due has happened, and told these interrupt lines.
+    Pulsed(u64),
+    /// The word was fetched, with these interrupt lines, and the instruction now comes to this.
+    Working(u64, Outcome),
     /// The hart has spent its budget and is over.
     Retired,
 }

@@ -1,23 +1,25 @@
-ghost use Rattle.std.specs.Prelude.{◌≡◌, ◌≢◌, ◌+◌, ◌==◌, if◌then◌else◌, ◌-◌, ◌^◌, ◌<◌, List, [], ◌∷◌, ◌++◌, ℕ, slice_set, true};
+ghost use Rattle.std.specs.Prelude.{◌≡◌, ◌≢◌, ◌+◌, ◌-◌, ◌^◌, ◌<◌, List, [], ◌∷◌, ◌++◌, ℕ, false};
 ghost use Rattle.flex_base.specs.Setup.{Setup};
-ghost use Rattle.flex_base.specs.State.{State, IsFit, set_reg};
-ghost use Rattle.flex_base.specs.Story.{story, fetches, want, ask, ends, Ends, is_tick};
+ghost use Rattle.flex_base.specs.State.{State, IsFit};
+ghost use Rattle.flex_base.specs.Decoding.{decoded};
+ghost use Rattle.flex_base.specs.Story.{story, fetches, works, want, ask, is_tick};
 ghost use Rattle.flex_base.specs.Forms.{HasForm};
+ghost use Rattle.flex_base.specs.Unsplit.{is_retire};
 ghost use Rattle.flex_base.specs.declared.access.Access.{Access};
 ghost use Rattle.flex_base.specs.declared.access.Reply.{Reply};
 ghost use Rattle.flex_base.specs.declared.event.EndPart.{EndPart};
-ghost use Rattle.hart_story.specs.Progressing.{IsOf, IsIn, IsAsking, IsEnding, EndsWith, CommitsTo, node, left, is_retired};
-ghost use Rattle.flex_base.specs.Unsplit.{is_retire};
 ghost use Rattle.flex_base.specs.declared.settings.Layout.{Layout};
 ghost use Rattle.hart_story.specs.declared.hart.Hart.{Hart};
-ghost use Rattle.hart_story.specs.StandsFor.{StandsFor};
-ghost use Rattle.hart_story.specs.Telling.{told, AsksPlaced, outcome_of, IsSoundOutcome};
+ghost use Rattle.hart_story.specs.Progressing.{IsOf, IsIn, IsAsking, IsEnding, EndsWith, CommitsTo, node, left, is_retired, IsSoundProgress};
+ghost use Rattle.hart_story.specs.StandsFor.{StandsFor, Shows};
+ghost use Rattle.hart_story.specs.Telling.{told, AsksPlaced, AsksReserved, end_of, outcome_of, IsSoundOutcome};
 
 use crate::hart::Hart;
-use crate::memory::after;
+use crate::outcome::{End, Outcome};
 use crate::progress::{Need, Progress};
-use crate::work::{Outcome, work};
-use flex_base::{Access, Class, EndPart, Layout, Place, Reply};
+use crate::reply::replied;
+use crate::work::work;
+use flex_base::{Access, Class, EndPart, Layout, Place, Reply, access_class};
 
 /// What the hart does next, with its class.
 pub fn need(hart: &Hart, progress: &Progress, layout: &Layout, budget: u64) -> Need
@@ -25,15 +27,14 @@ pub fn need(hart: &Hart, progress: &Progress, layout: &Layout, budget: u64) -> N
         → result ≡ told (ask setup a replies) }
     ensures placed { (setup : Setup) (a : State) (replies : List Reply) → IsIn setup a replies hart.now progress.now layout.now budget
         → AsksPlaced setup result }
+    ensures reserved { (setup : Setup) (a : State) (replies : List Reply) → IsIn setup a replies hart.now progress.now layout.now budget
+        → AsksReserved a result }
     ensures over { result ≡ Need.Over → progress.now ≡ Progress.Retired }
 {
     match *progress {
         Progress::Begun => first_need(hart, layout, budget),
-        Progress::Pulsed => fetch_need(hart, layout),
-        Progress::Fetched(word) => outcome_need(&work(hart, layout, word)),
-        Progress::Answered(word, value) => {
-            outcome_need(&after(hart, &work(hart, layout, word), value))
-        }
+        Progress::Pulsed(_) => fetch_need(hart, layout),
+        Progress::Working(_, outcome) => outcome_need(&outcome),
         Progress::Retired => Need::Over,
     }
 }
@@ -48,20 +49,28 @@ pub fn give(hart: &Hart, progress: &mut Progress, layout: &Layout, budget: u64, 
     ensures retired { (setup : Setup) (a : State) (replies : List Reply) (access : Access) → IsIn setup a replies hart.now progress.old layout.now budget
         → IsAsking setup a replies access → is_retired progress.new ≡ is_retire access }
 {
-    match *progress {
+    *progress = match *progress {
         Progress::Begun => {
-            if hart.ends == budget {
-                *progress = Progress::Retired;
-            } else if is_pulse_due(hart) {
-                *progress = Progress::Pulsed;
+            if hart.regs.ends == budget {
+                Progress::Retired
+            } else if hart.regs.due {
+                Progress::Pulsed(reply.lines)
             } else {
-                *progress = Progress::Fetched(reply.value as u32);
+                fetched(hart, layout, hart.regs.lines, reply)
             }
         }
-        Progress::Pulsed => *progress = Progress::Fetched(reply.value as u32),
-        Progress::Fetched(word) => *progress = Progress::Answered(word, reply.value),
-        Progress::Answered(_, _) | Progress::Retired => unreachable!(),
-    }
+        Progress::Pulsed(lines) => fetched(hart, layout, lines, reply),
+        Progress::Working(lines, outcome) => match outcome {
+            Outcome::Ask { access, signed, rd } => {
+                Progress::Working(
+                    lines,
+                    Outcome::End(replied(hart, access, signed, rd, reply.value)),
+                )
+            }
+            _ => unreachable!(),
+        },
+        Progress::Retired => unreachable!(),
+    };
 }
 
 /// Ends the instruction: its results, `pc` and the count of ends become the hart's.
@@ -70,30 +79,11 @@ pub fn finish(hart: &mut Hart, progress: Progress, layout: &Layout, budget: u64)
         × IsIn setup a replies hart.old progress layout.now budget × IsEnding setup a replies part after }
     ensures ends { (setup : Setup) (a : State) (replies : List Reply) (part : EndPart) (after : State) → IsIn setup a replies hart.old progress layout.now budget
         → IsEnding setup a replies part after → EndsWith setup (ask setup a replies) result hart.new }
-    ensures count { hart.new.ends ≡ hart.old.ends + 1 }
-{
-    let outcome = last_outcome(hart, progress, layout);
-    match outcome {
-        Outcome::End {
-            class,
-            next,
-            rd,
-            value,
-        } => commit(hart, class, next, rd, value),
-        _ => unreachable!(),
-    }
-}
-
-// What the instruction comes to at this point. A hart that is at its beginning, or over, has nothing to end.
-fn last_outcome(hart: &Hart, progress: Progress, layout: &Layout) -> Outcome
-    ensures outcome { (setup : Setup) (most : ℕ) (a : State) (part : EndPart) (left : State) → IsOf setup layout.now most → StandsFor hart.now a
-        → want (node setup a progress) ≡ Ends part left → node setup a progress ≡ outcome_of a result }
-    ensures sound { IsSoundOutcome layout.now hart.now result }
+    ensures count { hart.new.regs.ends ≡ hart.old.regs.ends + 1 }
 {
     match progress {
-        Progress::Fetched(word) => work(hart, layout, word),
-        Progress::Answered(word, value) => after(hart, &work(hart, layout, word), value),
-        _ => Outcome::Unbuilt,
+        Progress::Working(lines, Outcome::End(end)) => commit(hart, lines, &end),
+        _ => unreachable!(),
     }
 }
 
@@ -101,33 +91,40 @@ fn last_outcome(hart: &Hart, progress: Progress, layout: &Layout) -> Outcome
 fn first_need(hart: &Hart, layout: &Layout, budget: u64) -> Need
     ensures told { (setup : Setup) (a : State) → IsOf setup layout.now budget → StandsFor hart.now a → result ≡ told (want (story setup a)) }
     ensures placed { (setup : Setup) (a : State) → IsOf setup layout.now budget → StandsFor hart.now a → IsFit setup.ram setup.budget a → AsksPlaced setup result }
+    ensures reserved { (a : State) → AsksReserved a result }
     ensures goes_on { result ≢ Need.Over }
 {
-    if hart.ends == budget {
+    if hart.regs.ends == budget {
         Need::Ask(Access::Retire, Class::Pulse)
-    } else if is_pulse_due(hart) {
-        Need::Ask(Access::Pulse { tick: true }, Class::Pulse)
+    } else if hart.regs.due {
+        let tick = is_tick(hart);
+        Need::Ask(Access::Pulse { tick }, Class::Pulse)
     } else {
         fetch_need(hart, layout)
     }
 }
 
-// A pulse is due after each 64th end, and ticks there.
-fn is_pulse_due(hart: &Hart) -> bool
-    ensures due { (a : State) → StandsFor hart.now a → result ≡ a.due }
-    ensures tick { (a : State) → StandsFor hart.now a → a.due ≡ true → is_tick a ≡ true }
+// Time goes on with a pulse after each 64th end.
+fn is_tick(hart: &Hart) -> bool
+    ensures { (a : State) → StandsFor hart.now a → result ≡ is_tick a }
 {
-    hart.ends % 64 == 0 && hart.ends != 0
+    hart.regs.ends != 0 && hart.regs.ends % 64 == 0
 }
 
 // The fetch, which lies in RAM or is an exception.
 fn fetch_need(hart: &Hart, layout: &Layout) -> Need
-    ensures told { (setup : Setup) (most : ℕ) (a : State) → IsOf setup layout.now most → StandsFor hart.now a → result ≡ told (want (fetches setup a)) }
-    ensures placed { (setup : Setup) (most : ℕ) (a : State) → IsOf setup layout.now most → StandsFor hart.now a → IsFit setup.ram setup.budget a → AsksPlaced setup result }
+    ensures told { (setup : Setup) (most : ℕ) (a : State) → IsOf setup layout.now most → Shows hart.now a → result ≡ told (want (fetches setup a)) }
+    ensures placed { (setup : Setup) (most : ℕ) (a : State) → IsOf setup layout.now most → Shows hart.now a → IsFit setup.ram setup.budget a → AsksPlaced setup result }
+    ensures reserved { (a : State) → AsksReserved a result }
     ensures goes_on { result ≢ Need.Over }
 {
-    match layout.place(hart.pc, 4) {
-        Place::Ram => Need::Ask(Access::Fetch { address: hart.pc }, Class::Fetch),
+    match layout.place(hart.regs.pc, 4) {
+        Place::Ram => Need::Ask(
+            Access::Fetch {
+                address: hart.regs.pc,
+            },
+            Class::Fetch,
+        ),
         _ => Need::Unbuilt,
     }
 }
@@ -136,63 +133,47 @@ fn fetch_need(hart: &Hart, layout: &Layout) -> Need
 fn outcome_need(outcome: &Outcome) -> Need
     ensures told { (layout : Layout) (hart : Hart) (a : State) → IsSoundOutcome layout hart outcome.now → result ≡ told (want (outcome_of a outcome.now)) }
     ensures placed { (setup : Setup) (most : ℕ) (layout : Layout) (hart : Hart) → IsOf setup layout most → IsSoundOutcome layout hart outcome.now → AsksPlaced setup result }
+    ensures reserved { (layout : Layout) (hart : Hart) (a : State) → Shows hart a → IsSoundOutcome layout hart outcome.now → AsksReserved a result }
     ensures goes_on { result ≢ Need.Over }
 {
     match *outcome {
-        Outcome::End { class, .. } => Need::Finish(class),
-        Outcome::Load { address, width, .. } => {
-            Need::Ask(Access::Read { address, width }, Class::Load)
-        }
-        Outcome::Store {
-            address,
-            width,
-            value,
-        } => Need::Ask(
-            Access::Write {
-                address,
-                width,
-                value,
-            },
-            Class::Store,
-        ),
+        Outcome::End(end) => Need::Finish(end.class),
+        Outcome::Ask { access, .. } => Need::Ask(access, access_class(&access)),
         Outcome::Unbuilt => Need::Unbuilt,
     }
 }
 
+// What the fetched word comes to, with the interrupt lines as last read.
+fn fetched(hart: &Hart, layout: &Layout, lines: u64, reply: Reply) -> Progress
+    requires { reply.value < 2 ^ 32 }
+    ensures works { (setup : Setup) (most : ℕ) (a : State) → IsOf setup layout.now most → Shows hart.now a
+        → works setup (record a { lines = lines }) (decoded reply.value) ≡ node setup a result }
+    ensures sound { IsSoundProgress layout.now hart.now result }
+    ensures nearer { left result < 2 }
+    ensures goes_on { is_retired result ≡ false }
+{
+    Progress::Working(lines, work(hart, layout, reply.value as u32))
+}
+
 // The end of an instruction, on the hart.
-fn commit(hart: &mut Hart, class: Class, next: u64, rd: u8, value: u64) -> EndPart
-    requires { hart.old.ends < 2 ^ 64 - 1 }
-    ensures commits { (a : State) → StandsFor hart.old a → CommitsTo hart.new result (ends a class next rd value) }
-    ensures count { hart.new.ends ≡ hart.old.ends + 1 }
+fn commit(hart: &mut Hart, lines: u64, end: &End) -> EndPart
+    requires unspent { hart.old.regs.ends < 2 ^ 64 - 1 }
+    requires register { end.now.rd < 32 }
+    ensures commits { (a : State) → StandsFor hart.old a → CommitsTo hart.new result (end_of (record a { lines = lines }) end.now) }
+    ensures count { hart.new.regs.ends ≡ hart.old.regs.ends + 1 }
 {
-    let pc = hart.pc;
-    hart.pc = next;
-    hart.ends += 1;
+    let pc = hart.regs.pc;
+    hart.regs.pc = end.next;
+    hart.regs.set(end.rd, end.value);
+    hart.regs.reservation = end.reservation;
+    hart.regs.lines = lines;
+    hart.regs.ends += 1;
+    hart.regs.due = hart.regs.ends % 64 == 0;
     EndPart {
-        class,
+        class: end.class,
         pc,
-        next,
-        first: rd as u64,
-        second: write(hart, rd, value),
-    }
-}
-
-// The value that stands in the register after a write of it: 0 in `x0`.
-fn write(hart: &mut Hart, r: u8, value: u64) -> u64
-    ensures value { result ≡ (if r == 0 then 0 else value) }
-    ensures written { hart.new ≡ record hart.old { x = set_reg hart.old.x r value } }
-{
-    if r == 0 {
-        return 0;
-    }
-    write_nonzero(&mut hart.x, r as usize, value);
-    value
-}
-
-fn write_nonzero(x: &mut [u64], r: usize, value: u64)
-    ensures { x.new ≡ slice_set x.old r value }
-{
-    if r < x.len() {
-        x[r] = value;
+        next: end.next,
+        first: end.rd as u64,
+        second: if end.rd == 0 { 0 } else { end.value },
     }
 }

@@ -1,9 +1,16 @@
-ghost use Rattle.std.specs.Prelude.{◌≡◌, ◌≤◌, true};
-ghost use Rattle.flex_base.specs.Word.{is_multiple};
+ghost use Rattle.std.specs.Prelude.{◌≡◌, ◌*◌, ◌^◌, ◌<◌, true};
+ghost use Rattle.flex_base.specs.State.{IsFit};
+ghost use Rattle.flex_base.specs.Forms.{HasForm};
+ghost use Rattle.flex_base.specs.FlatMemory.{reply_with};
+ghost use Rattle.hart_state.specs.StateOf.{state_of};
+ghost use Rattle.hart_story.specs.Telling.{IsReservation};
 
 use super::*;
-use flex_base::{Access, Class, EndPart, HartId, Layout, Reply};
+use flex_base::{Access, AmoOp, Class, EndPart, HartId, Layout, Mode, Place, Reply};
+use hart_state::Regs;
 use std::process::Abort;
+
+mod needs;
 
 const BUDGET: u64 = 100;
 
@@ -17,37 +24,58 @@ fn layout() -> Layout
     }
 }
 
-fn hart_at(pc: u64, ends: u64) -> Hart {
+fn hart_at(pc: u64, ends: u64, due: bool) -> Hart {
     Hart {
-        pc,
-        x: [0; 32],
-        ends,
+        regs: Regs {
+            pc,
+            x: [0; 32],
+            mode: Mode::M,
+            reservation: None,
+            ends,
+            lines: 0,
+            due,
+        },
     }
 }
 
 fn assert_fit(rt: &impl Abort, hart: &Hart, budget: u64)
-    ensures aligned { is_multiple hart.now.pc 4 ≡ true }
-    ensures within { hart.now.ends ≤ budget }
+    ensures { IsFit 1048576 budget (state_of hart.now.regs) }
 {
-    assert!(rt; hart.pc % 4 == 0);
-    assert!(rt; hart.ends <= budget);
+    assert!(rt; hart.regs.pc % 4 == 0);
+    assert!(rt; hart.regs.ends <= budget);
+    assert!(rt; is_reservation(hart.regs.reservation));
 }
 
-// Makes the hart's next instruction, which is this word.
-fn make(rt: &impl Abort, hart: &mut Hart, word: u32) -> EndPart {
+// Whether this is a reservation of 8 aligned bytes of RAM.
+fn is_reservation(reservation: Option<u64>) -> bool
+    ensures { result ≡ true → IsReservation 1048576 reservation }
+{
+    match reservation {
+        None => true,
+        Some(address) => address % 8 == 0 && matches!(layout().place(address, 8), Place::Ram),
+    }
+}
+
+// Makes the hart's next instruction, which is this word, with this reply to its access. It gives
+// what the hart needs after the fetch, and the end.
+fn make(rt: &impl Abort, hart: &mut Hart, word: u32, value: u64) -> (Need, EndPart) {
     let layout = layout();
     assert_fit(rt, hart, BUDGET);
     let mut progress = Progress::begin();
     match need(hart, &progress, &layout, BUDGET) {
         Need::Ask(Access::Fetch { .. }, Class::Fetch) => {
-            let reply = Reply {
-                value: word as u64,
-                lines: 0,
-                stop: false,
-            };
-            give(hart, &mut progress, &layout, BUDGET, reply);
-            match need(hart, &progress, &layout, BUDGET) {
-                Need::Finish(_) => finish(hart, progress, &layout, BUDGET),
+            give(hart, &mut progress, &layout, BUDGET, reply_of(word as u64));
+            let needed = need(hart, &progress, &layout, BUDGET);
+            match needed {
+                Need::Finish(_) => (needed, finish(hart, progress, &layout, BUDGET)),
+                Need::Ask(access, _) => {
+                    assert_form(rt, &access, value);
+                    give(hart, &mut progress, &layout, BUDGET, reply_of(value));
+                    match need(hart, &progress, &layout, BUDGET) {
+                        Need::Finish(_) => (needed, finish(hart, progress, &layout, BUDGET)),
+                        _ => rt.abort(),
+                    }
+                }
                 _ => rt.abort(),
             }
         }
@@ -55,22 +83,40 @@ fn make(rt: &impl Abort, hart: &mut Hart, word: u32) -> EndPart {
     }
 }
 
-// How far the hart has come that has spent its budget and retires.
-fn retire(rt: &impl Abort, hart: &Hart, budget: u64) -> Progress {
-    let layout = layout();
-    assert_fit(rt, hart, budget);
-    let mut progress = Progress::begin();
-    match need(hart, &progress, &layout, budget) {
-        Need::Ask(Access::Retire, Class::Pulse) => {
-            let reply = Reply {
-                value: 0,
-                lines: 0,
-                stop: false,
-            };
-            give(hart, &mut progress, &layout, budget, reply);
-            progress
+fn reply_of(value: u64) -> Reply
+    ensures { result ≡ reply_with value }
+{
+    Reply {
+        value,
+        lines: 0,
+        stop: false,
+    }
+}
+
+// Stops where no access of this kind can be replied with the value.
+fn assert_form(rt: &impl Abort, access: &Access, value: u64)
+    ensures { HasForm access.now (reply_with value) }
+{
+    match *access {
+        Access::Read { width, .. } | Access::Lr { width, .. } | Access::Amo { width, .. } => {
+            assert!(rt; fits(width, value))
         }
+        Access::Write { .. } => assert!(rt; value == 0),
+        Access::Sc { .. } => assert!(rt; value < 2),
         _ => rt.abort(),
+    }
+}
+
+// Whether so many bytes hold the value.
+fn fits(width: u8, value: u64) -> bool
+    ensures { result ≡ true → value < 2 ^ (8 * width) }
+{
+    match width {
+        1 => value < 0x100,
+        2 => value < 0x1_0000,
+        4 => value < 0x1_0000_0000,
+        8 => true,
+        _ => false,
     }
 }
 
@@ -79,14 +125,9 @@ fn makes_instructions(rt: HostRuntime) {
     let mut hart = Hart::start(HartId(3), 0x8000_0000);
     let mut registers = [0; 32];
     registers[10] = 3;
-    assert_eq!(rt;
-        hart,
-        Hart {
-            pc: 0x8000_0000,
-            x: registers,
-            ends: 0
-        }
-    );
+    let mut regs = hart_at(0x8000_0000, 0, false).regs;
+    regs.x = registers;
+    assert_eq!(rt; hart, Hart { regs });
     let minus_1 = 0xffff_ffff_ffff_ffff;
     let table = [
         // addi x5, x0, 7
@@ -121,12 +162,13 @@ fn makes_instructions(rt: HostRuntime) {
     for (word, class, next, first, second) in table {
         let part = EndPart {
             class,
-            pc: hart.pc,
+            pc: hart.regs.pc,
             next,
             first,
             second,
         };
-        assert_eq!(rt; make(&rt, &mut hart, word), part, "{word:x}");
+        let made = make(&rt, &mut hart, word, 0);
+        assert_eq!(rt; made, (Need::Finish(class), part), "{word:x}");
     }
     registers[1] = 0x8000_0008;
     registers[2] = 0x8000_0020;
@@ -136,177 +178,156 @@ fn makes_instructions(rt: HostRuntime) {
     registers[8] = 0x8000_0008;
     registers[9] = minus_1;
     registers[10] = 4;
-    assert_eq!(rt;
-        hart,
-        Hart {
-            pc: 0x8000_100c,
-            x: registers,
-            ends: 14
-        }
-    );
+    let mut regs = hart_at(0x8000_100c, 14, false).regs;
+    regs.x = registers;
+    assert_eq!(rt; hart, Hart { regs });
+}
+
+const MINUS_1: u64 = 0xffff_ffff_ffff_ffff;
+
+// `x6` and `x7` are addresses in different lines, `x8` lies in the 8 bytes of `x6`, and `x5` is what
+// is written.
+fn hart_of_atomics() -> Hart {
+    let mut hart = hart_at(0x8000_0000, 0, false);
+    hart.regs.x[5] = 0x0123_4567_89ab_cdef;
+    hart.regs.x[6] = 0x8000_0100;
+    hart.regs.x[7] = 0x8000_0140;
+    hart.regs.x[8] = 0x8000_0104;
+    hart.regs.x[9] = 0x8000_0000_0000_0000;
+    hart.regs.x[11] = 0x0000_0001_0000_0003;
+    hart.regs.x[12] = 0x0000_0001_8000_0001;
+    hart.regs.x[13] = 3;
+    hart
+}
+
+// Makes each word in turn. A row has the word, the reply to its access, what is needed after the
+// fetch, and what is written to `x10`.
+fn assert_made(rt: &impl Abort, hart: &mut Hart, table: &[(u32, u64, Need, u64)]) {
+    for &(word, value, needed, written) in table {
+        let (told, part) = make(rt, hart, word, value);
+        assert_eq!(rt; told, needed, "{word:x}");
+        assert_eq!(rt; (part.first, part.second), (10, written), "{word:x}");
+        assert_eq!(rt; hart.regs.x[10], written, "{word:x}");
+    }
 }
 
 #[test]
-fn needs_what_its_place_in_the_run_says(rt: HostRuntime) {
-    needs_at_the_beginning(&rt);
-    needs_after_the_pulse(&rt);
-    needs_after_the_fetch(&rt);
-    needs_of_loads_and_stores(&rt);
-    needs_after_the_access(&rt);
-    for ends in [1, 64, 100] {
-        let hart = hart_at(0x8000_0000, ends);
-        let progress = retire(&rt, &hart, ends);
+fn ends_what_it_computed_or_accessed(rt: HostRuntime) {
+    let mut hart = hart_of_atomics();
+    let muldiv = Need::Finish(Class::Muldiv);
+    let concluded = Need::Finish(Class::Atomic);
+    let table = [
+        // mulw x10, x11, x12, mul x10, x9, x13, divu x10, x9, x13 and divu x10, x9, x0
+        (0x02c5853b, 0, muldiv, 0xffff_ffff_8000_0003),
+        (0x02d48533, 0, muldiv, 0x8000_0000_0000_0000),
+        (0x02d4d533, 0, muldiv, 0x2aaa_aaaa_aaaa_aaaa),
+        (0x0204d533, 0, muldiv, MINUS_1),
+        // lb, lh, lw, ld, lbu, lhu and lwu x10, 0(x6)
+        (
+            0x00030503,
+            0x80,
+            read(0x8000_0100, 1),
+            0xffff_ffff_ffff_ff80,
+        ),
+        (
+            0x00031503,
+            0x8001,
+            read(0x8000_0100, 2),
+            0xffff_ffff_ffff_8001,
+        ),
+        (
+            0x00032503,
+            0x8000_0002,
+            read(0x8000_0100, 4),
+            0xffff_ffff_8000_0002,
+        ),
+        (
+            0x00033503,
+            0x8000_0000_0000_0003,
+            read(0x8000_0100, 8),
+            0x8000_0000_0000_0003,
+        ),
+        (0x00034503, 0x80, read(0x8000_0100, 1), 0x80),
+        (0x00035503, 0x8001, read(0x8000_0100, 2), 0x8001),
+        (0x00036503, 0x8000_0002, read(0x8000_0100, 4), 0x8000_0002),
+        (0x00030503, 0x7f, read(0x8000_0100, 1), 0x7f),
+        // sc.w x10, x5, (x6), with no reservation
+        (0x1853252f, 0, concluded, 1),
+        // lr.w x10, (x6), sc.d x10, x5, (x6) and sc.d again
+        (
+            0x1003252f,
+            0x8000_0000,
+            lr(0x8000_0100, 4),
+            0xffff_ffff_8000_0000,
+        ),
+        (0x1853352f, 0, sc(0x8000_0100, 8, 0x0123_4567_89ab_cdef), 0),
+        (0x1853352f, 0, concluded, 1),
+        // lr.d x10, (x6), and sc.w x10, x5, (x8), which another hart's write makes fail
+        (
+            0x1003352f,
+            0x8000_0000_0000_0000,
+            lr(0x8000_0100, 8),
+            0x8000_0000_0000_0000,
+        ),
+        (0x1854252f, 1, sc(0x8000_0104, 4, 0x89ab_cdef), 1),
+        // lr.w x10, (x6), lr.w x10, (x7), sc.w x10, x5, (x6) and sc.w x10, x5, (x7)
+        (0x1003252f, 1, lr(0x8000_0100, 4), 1),
+        (0x1003a52f, 2, lr(0x8000_0140, 4), 2),
+        (0x1853252f, 0, concluded, 1),
+        (0x1853a52f, 0, concluded, 1),
+        // lr.w x10, (x8), amomax.w x10, x5, (x6), and sc.w x10, x5, (x6)
+        (0x1004252f, 3, lr(0x8000_0104, 4), 3),
+        (
+            0xa053252f,
+            0x8000_0004,
+            amo_max(0x8000_0100, 0x89ab_cdef),
+            0xffff_ffff_8000_0004,
+        ),
+        (0x1853252f, 0, sc(0x8000_0100, 4, 0x89ab_cdef), 0),
+    ];
+    assert_made(&rt, &mut hart, table.as_slice());
+    assert_eq!(rt; hart.regs.ends, 25);
+    assert_eq!(rt; hart.regs.reservation, None);
+    // sw x5, 0(x6) and amoadd.d x0, x5, (x7) write no register.
+    for (word, class) in [(0x00532023, Class::Store), (0x0053b02f, Class::Atomic)] {
+        let before = hart.regs.x;
+        let (_, part) = make(&rt, &mut hart, word, 0);
         assert_eq!(rt;
-            need(&hart, &progress, &layout(), ends),
-            Need::Over,
-            "at {ends}"
+            (part.class, part.first, part.second),
+            (class, 0, 0),
+            "{word:x}"
         );
+        assert_eq!(rt; hart.regs.x, before, "{word:x}");
     }
-}
-
-// By the pc, the ends and the budget.
-fn needs_at_the_beginning(rt: &impl Abort) {
-    let retirement = Need::Ask(Access::Retire, Class::Pulse);
-    let tick = Need::Ask(Access::Pulse { tick: true }, Class::Pulse);
-    let table = [
-        (0x8000_0000, 0, fetch(0x8000_0000)),
-        (0x800f_fffc, 1, fetch(0x800f_fffc)),
-        (0x8010_0000, 1, Need::Unbuilt),
-        (0x7fff_fffc, 1, Need::Unbuilt),
-        (0x8000_0000, 63, fetch(0x8000_0000)),
-        (0x8000_0000, 64, tick),
-        (0x8010_0000, 64, tick),
-        (0x8000_0000, 65, fetch(0x8000_0000)),
-        (0x8000_0000, 99, fetch(0x8000_0000)),
-        (0x8000_0000, 100, retirement),
-        (0x8010_0000, 100, retirement),
-    ];
-    for (pc, ends, want) in table {
-        let hart = hart_at(pc, ends);
-        let told = need(&hart, &Progress::begin(), &layout(), BUDGET);
-        assert_eq!(rt; told, want, "at {pc:x} after {ends}");
-    }
-}
-
-fn fetch(address: u64) -> Need {
-    Need::Ask(Access::Fetch { address }, Class::Fetch)
-}
-
-// A pulse comes before the fetch, at the same ends.
-fn needs_after_the_pulse(rt: &impl Abort) {
-    for (pc, want) in [
-        (0x8000_0000, fetch(0x8000_0000)),
-        (0x8010_0000, Need::Unbuilt),
-    ] {
-        let hart = hart_at(pc, 64);
-        let told = need(&hart, &Progress::Pulsed, &layout(), BUDGET);
-        assert_eq!(rt; told, want, "at {pc:x}");
-    }
-}
-
-fn needs_after_the_fetch(rt: &impl Abort) {
-    let table = [
-        // addi x5, x0, 7
-        (0x00700293, Need::Finish(Class::Alu)),
-        // jal x0, 0
-        (0x0000006f, Need::Finish(Class::Jump)),
-        // jal x0, 2
-        (0x0020006f, Need::Unbuilt),
-        // jalr x1, 3(x0), whose lowest bit is cleared
-        (0x003000e7, Need::Unbuilt),
-        // beq x0, x0, 8 and bne x0, x0, 2
-        (0x00000463, Need::Finish(Class::Jump)),
-        (0x00001163, Need::Finish(Class::Jump)),
-        // beq x0, x0, 2
-        (0x00000163, Need::Unbuilt),
-        // fence and fence.i
-        (0x0ff0000f, Need::Finish(Class::Fence)),
-        (0x0000100f, Need::Finish(Class::Fence)),
-        // lui x5, 1 and sub x5, x6, x7
-        (0x000012b7, Need::Finish(Class::Alu)),
-        (0x407302b3, Need::Finish(Class::Alu)),
-        // mul x5, x6, x7, ecall and no instruction
-        (0x027302b3, Need::Unbuilt),
-        (0x00000073, Need::Unbuilt),
-        (0x00000000, Need::Unbuilt),
-    ];
-    for (word, want) in table {
-        let hart = hart_at(0x8000_0000, 0);
-        let told = need(&hart, &Progress::Fetched(word), &layout(), BUDGET);
-        assert_eq!(rt; told, want, "{word:x}");
-    }
-}
-
-// `x6` is the start of RAM, `x7` its end, and `x5` what a store writes.
-fn hart_of_accesses() -> Hart {
-    let mut hart = hart_at(0x8000_0000, 0);
-    hart.x[5] = 0x0123_4567_89ab_cdef;
-    hart.x[6] = 0x8000_0000;
-    hart.x[7] = 0x8010_0000;
-    hart
 }
 
 fn read(address: u64, width: u8) -> Need {
     Need::Ask(Access::Read { address, width }, Class::Load)
 }
 
-fn write(address: u64, width: u8, value: u64) -> Need {
+fn lr(address: u64, width: u8) -> Need {
+    Need::Ask(Access::Lr { address, width }, Class::Atomic)
+}
+
+fn sc(address: u64, width: u8, value: u64) -> Need {
     Need::Ask(
-        Access::Write {
+        Access::Sc {
             address,
             width,
             value,
         },
-        Class::Store,
+        Class::Atomic,
     )
 }
 
-fn needs_of_loads_and_stores(rt: &impl Abort) {
-    let table = [
-        // lb, lh, lw, ld, lbu, lhu and lwu x5, 0(x6)
-        (0x00030283, read(0x8000_0000, 1)),
-        (0x00031283, read(0x8000_0000, 2)),
-        (0x00032283, read(0x8000_0000, 4)),
-        (0x00033283, read(0x8000_0000, 8)),
-        (0x00034283, read(0x8000_0000, 1)),
-        (0x00035283, read(0x8000_0000, 2)),
-        (0x00036283, read(0x8000_0000, 4)),
-        // sb, sh, sw and sd x5, 0(x6)
-        (0x00530023, write(0x8000_0000, 1, 0xef)),
-        (0x00531023, write(0x8000_0000, 2, 0xcdef)),
-        (0x00532023, write(0x8000_0000, 4, 0x89ab_cdef)),
-        (0x00533023, write(0x8000_0000, 8, 0x0123_4567_89ab_cdef)),
-        // lb x5, -1(x7), ld x5, -8(x7) and sd x5, -8(x7)
-        (0xfff38283, read(0x800f_ffff, 1)),
-        (0xff83b283, read(0x800f_fff8, 8)),
-        (0xfe53bc23, write(0x800f_fff8, 8, 0x0123_4567_89ab_cdef)),
-        // ld x5, 0(x7), and lb x5, -1(x6)
-        (0x0003b283, Need::Unbuilt),
-        (0xfff30283, Need::Unbuilt),
-        // lh x5, 1(x6), lw x5, 2(x6), ld x5, 4(x6), and sw x5, 0(x0)
-        (0x00131283, Need::Unbuilt),
-        (0x00232283, Need::Unbuilt),
-        (0x00433283, Need::Unbuilt),
-        (0x00502023, Need::Unbuilt),
-    ];
-    for (word, want) in table {
-        let told = need(
-            &hart_of_accesses(),
-            &Progress::Fetched(word),
-            &layout(),
-            BUDGET,
-        );
-        assert_eq!(rt; told, want, "{word:x}");
-    }
-}
-
-fn needs_after_the_access(rt: &impl Abort) {
-    for (word, want) in [
-        (0x00030283, Need::Finish(Class::Load)),
-        (0x00533023, Need::Finish(Class::Store)),
-    ] {
-        let progress = Progress::Answered(word, 0);
-        let told = need(&hart_of_accesses(), &progress, &layout(), BUDGET);
-        assert_eq!(rt; told, want, "{word:x}");
-    }
+fn amo_max(address: u64, value: u64) -> Need {
+    Need::Ask(
+        Access::Amo {
+            op: AmoOp::Max,
+            address,
+            width: 4,
+            value,
+        },
+        Class::Atomic,
+    )
 }

@@ -1,5 +1,5 @@
 -- Where a bank holds the bytes of its addresses.
-use Rattle.std.proofs.Common.{◌≡◌, ℕ, zero, suc, ◌⊎◌, List, length, slice_index, Option, ◌+◌, ◌-◌, ◌*◌, ◌/◌, ◌%◌, ◌^◌, ◌<◌, ◌≤◌, true, false, refl, ap, sym, subst, ◌∙◌, arith, inl, inr, mul_assoc, mul_right_comm, div-add-mod'}
+use Rattle.std.proofs.Common.{◌≡◌, ℕ, zero, suc, ◌⊎◌, List, length, slice_index, Option, ◌+◌, ◌-◌, ◌*◌, ◌/◌, ◌%◌, ◌<◌, ◌≤◌, true, false, refl, ap, sym, subst, ◌∙◌, arith, inl, inr, mul_assoc, mul_right_comm, div-add-mod'}
 use Rattle.std.proofs.Math.Nat.{add-mul-mod_self_right}
 use Rattle.std.proofs.lemmas.Bool.{cases_eq}
 use Rattle.std.proofs.lemmas.Nat.{same_from_place, div_below, le-div}
@@ -111,10 +111,6 @@ in_line a = by_width (λ w. is_multiple a w ≡ true → (a % 64 + w ≤ 64) × 
     (λ aligned. let e = remainder a 2 aligned in (omega (arith, e), omega arith, omega arith))
     (λ aligned. let e = remainder a 4 aligned in (omega (arith, e), omega arith, omega arith))
     (λ aligned. let e = remainder a 8 aligned in (omega (arith, e), omega arith, omega arith))
-
--- so many bytes have eight times as many bits
-pub in_bits : (width : ℕ) → IsWidth width → (n : ℕ) → n < 256 ^ width → n < 2 ^ (8 * width)
-in_bits = by_width (λ w. (n : ℕ) → n < 256 ^ w → n < 2 ^ (8 * w)) (λ n below. below) (λ n below. below) (λ n below. below) (λ n below. below)
 
 -- what a load or a store of so many bytes has to know
 pub record Span (b : Bank) (address width : ℕ) : Type 0 where

@@ -1,47 +1,66 @@
 -- Bytes of the image that are written into a bank, one after another.
-use Rattle.std.proofs.Common.{◌≡◌, ℕ, ◌+◌, ◌-◌, ◌<◌, ◌≤◌, Bool, true, false, if◌then◌else◌, List, length, get_or, set, refl, ap, sym, ◌∙◌, arith, inl, inr, get_or-set_same, get_or-set_other, ◌||◌, ◌&&◌, map, replicate, Option, None, Vec, Global}
-use Rattle.std.proofs.lemmas.Bool.{cases_eq}
-use Rattle.std.proofs.lemmas.Bool.Decides.{eqb_tells, nat_tests}
-use Rattle.std.proofs.lemmas.List.{get_or-replicate}
+use Rattle.std.proofs.Common.{◌≡◌, ℕ, ◌%◌, ◌+◌, ◌-◌, ◌<◌, ◌≤◌, Bool, true, false, if◌then◌else◌, List, length, get_or, refl, ap, sym, ◌∙◌, arith, inl, inr, ◌||◌, ◌&&◌, map, Vec, Global}
+use Rattle.std.proofs.lemmas.Bool.Decides.{eqb_tells, leb_tells, nat_tests}
+use Rattle.std.proofs.lemmas.List.Edits.{get_or-between, length-between}
 use Rattle.std.proofs.lemmas.List.Folds.{fold-map, list_all-map}
-use Rattle.std.specs.List.{fold, list_all}
+use Rattle.std.specs.List.{fold, list_all, between}
 use Rattle.flex_base.specs.Word.{is_multiple}
 use Rattle.flex_base.specs.Loaded.{part_fits, image_fits}
 use Rattle.flex_base.specs.Place.{ram_base, in_ram}
 use Rattle.flex_base.specs.FlatMemory.{covers, image_byte}
 use Rattle.mem_lines.specs.Bank.{is_bank_count, bank_of, spot, laid}
 use Rattle.mem_lines.proofs.Covering.{cases_covers, covers_at, covers_no}
-use Rattle.mem_lines.proofs.Dealing.{spot_apart}
+use Rattle.mem_lines.proofs.Dealing.{spot_apart, spot_next, bank_next}
 
--- one more byte changes nothing elsewhere
-laid_other : (address i a here old : ℕ) → (a ≡ address + i → ⊥) → (if covers address i a then here else old) ≡ (if covers address (i + 1) a then here else old)
-laid_other address i a here old other = elim (cases_covers address i a) [
-  | inl in_it ↦ rw (in_it.0, covers_at address (i + 1) a in_it.1.0 (omega (arith, in_it.1.1))) refl
-  | inr away ↦ rw (away.0, covers_no address (i + 1) a (λ both. away.1 (both.0, omega (arith, both.0, both.1, other)))) refl
+-- n more bytes change nothing elsewhere
+laid_other : (address i n a here old : ℕ) → (((address + i ≤ a) × (a < address + i + n)) → ⊥) → (if covers address i a then here else old) ≡ (if covers address (i + n) a then here else old)
+laid_other address i n a here old other = elim (cases_covers address i a) [
+  | inl in_it ↦ rw (in_it.0, covers_at address (i + n) a in_it.1.0 (omega (arith, in_it.1.1))) refl
+  | inr away ↦
+      let none : covers address (i + n) a ≡ false = covers_no address (i + n) a (λ both. elim (leb_tells (address + i) a) [
+        | inl above ↦ other (above.1, omega (arith, both.1))
+        | inr below ↦ away.1 (both.0, below.1)
+      ]) in
+      rw (away.0, none) refl
 ]
 
-laid_last : (address i old : ℕ) (part : List ℕ) → (if covers address (i + 1) (address + i) then get_or part (address + i - address) 0 else old) ≡ get_or part i 0
-laid_last address i old part =
-    let here : covers address (i + 1) (address + i) ≡ true = covers_at address (i + 1) (address + i) (omega arith) (omega arith) in
-    let same : address + i - address ≡ i = omega arith in
-    rw (here, same) refl
-
--- a byte of this bank
-pub laid_more : (bytes part : List ℕ) (banks address i a old : ℕ) → is_bank_count banks ≡ true → ram_base ≤ address → ram_base ≤ a → bank_of banks a ≡ bank_of banks (address + i) → spot banks (address + i) < length bytes
+-- a byte of this bank, after n bytes within a line
+pub laid_more : (bytes after part : List ℕ) (banks address i n a old : ℕ) → is_bank_count banks ≡ true → ram_base ≤ address → ram_base ≤ a → bank_of banks a ≡ bank_of banks (address + i) → (address + i) % 64 + n ≤ 64 → i + n ≤ length part
+    → ((k : ℕ) → get_or after k 0 ≡ laid k (get_or bytes k 0) (spot banks (address + i), between i (i + n) part))
     → get_or bytes (spot banks a) 0 ≡ (if covers address i a then get_or part (a - address) 0 else old)
-    → get_or (set bytes (spot banks (address + i)) (get_or part i 0)) (spot banks a) 0 ≡ (if covers address (i + 1) a then get_or part (a - address) 0 else old)
-laid_more bytes part banks address i a old count above_part above bank within before = elim (cases_eq a (address + i)) [
-  | inl same ↦ rw same (get_or-set_same bytes (spot banks (address + i)) (get_or part i 0) 0 within ∙ sym (laid_last address i old part))
-  | inr other ↦
-      let apart : spot banks a ≡ spot banks (address + i) → ⊥ = λ same. other (spot_apart banks a (address + i) count above (omega arith) bank same) in
-      get_or-set_other bytes (spot banks (address + i)) (spot banks a) (get_or part i 0) 0 apart ∙ before ∙ laid_other address i a (get_or part (a - address) 0) old other
-]
+    → get_or after (spot banks a) 0 ≡ (if covers address (i + n) a then get_or part (a - address) 0 else old)
+laid_more bytes after part banks address i n a old count above_part above bank line within each before =
+    let at = spot banks (address + i) in
+    let size : length (between i (i + n) part) ≡ n = length-between part i (i + n) within ∙ omega arith in
+    let next : (j : ℕ) → j < n → spot banks (address + i + j) ≡ at + j = λ j below. spot_next banks (address + i) j (omega arith) (omega arith) in
+    let same_bank : (j : ℕ) → j < n → bank_of banks (address + i + j) ≡ bank_of banks a = λ j below. bank_next banks (address + i) j (omega arith) ∙ sym bank in
+    each (spot banks a) ∙ elim (cases_covers (address + i) n a) [
+      | inl here ↦
+          let j = a - (address + i) in
+          let low : j < n = omega (arith, here.1) in
+          let place : spot banks a ≡ at + j = ap (spot banks) (omega (arith, here.1)) ∙ next j low in
+          let inside : covers at (length (between i (i + n) part)) (spot banks a) ≡ true = covers_at at (length (between i (i + n) part)) (spot banks a) (omega (arith, place)) (omega (arith, place, size, low)) in
+          let whole : covers address (i + n) a ≡ true = covers_at address (i + n) a (omega (arith, here.1)) (omega (arith, here.1)) in
+          rw (inside, whole) (ap (λ k. get_or (between i (i + n) part) k 0) (omega (arith, place)) ∙ get_or-between part i (i + n) j 0 (omega (arith, low)) ∙ ap (λ k. get_or part k 0) (omega (arith, here.1)))
+      | inr away ↦
+          let none : covers at (length (between i (i + n) part)) (spot banks a) ≡ false = covers_no at (length (between i (i + n) part)) (spot banks a) (λ both.
+          let j = spot banks a - at in
+          let low : j < n = omega (arith, both.0, both.1, size) in
+          let spots : spot banks (address + i + j) ≡ spot banks a = next j low ∙ omega (arith, both.0) in
+          let one = spot_apart banks (address + i + j) a count (omega arith) above (same_bank j low) spots in
+          away.1 (omega (arith, one), omega (arith, one, low))) in
+          rw none (before ∙ laid_other address i n a (get_or part (a - address) 0) old away.1)
+    ]
 
 -- a byte of another bank
-pub laid_none : (bytes part : List ℕ) (banks address i a old : ℕ) → (bank_of banks a ≡ bank_of banks (address + i) → ⊥)
+pub laid_none : (bytes part : List ℕ) (banks address i n a old : ℕ) → (address + i) % 64 + n ≤ 64 → (bank_of banks a ≡ bank_of banks (address + i) → ⊥)
     → get_or bytes (spot banks a) 0 ≡ (if covers address i a then get_or part (a - address) 0 else old)
-    → get_or bytes (spot banks a) 0 ≡ (if covers address (i + 1) a then get_or part (a - address) 0 else old)
-laid_none bytes part banks address i a old other before = before ∙ laid_other address i a (get_or part (a - address) 0) old (λ same. other (ap (bank_of banks) same))
+    → get_or bytes (spot banks a) 0 ≡ (if covers address (i + n) a then get_or part (a - address) 0 else old)
+laid_none bytes part banks address i n a old line other before =
+    before ∙ laid_other address i n a (get_or part (a - address) 0) old (λ here.
+    let j = a - (address + i) in
+    let place : a ≡ address + i + j = omega (arith, here) in
+    other (ap (bank_of banks) place ∙ bank_next banks (address + i) j (omega (arith, here))))
 
 -- The image.
 
@@ -65,6 +84,3 @@ last_true false b d e = absurd cc
 
 pub parts_fit : (ram entry : ℕ) (parts : List (ℕ × Vec ℕ Global)) → image_fits ram (record { entry = entry; parts = map (λ part. (part.0, part.1.items)) parts }) ≡ true → list_all (λ part. part_fits ram (part.0, part.1.items)) parts ≡ true
 parts_fit ram entry parts fits = sym (list_all-map (part_fits ram) (λ (part : ℕ × Vec ℕ Global). (part.0, part.1.items)) parts) ∙ last_true (is_multiple entry 4) (in_ram ram entry 1) (list_all (part_fits ram) (map (λ part. (part.0, part.1.items)) parts)) fits
-
-pub no_place : (hart : ℕ) → hart < 32 → get_or (replicate {A = Option ℕ} 32 None) hart None ≡ None
-no_place hart below = get_or-replicate 32 hart None None below

@@ -1,6 +1,7 @@
 pub mod Covering
-pub mod Storing
+pub mod LittleEndian
+pub mod Standing
 pub mod Dealing
 pub mod Replays
 pub mod Laying
-mod Whole
+pub mod Whole

@@ -1,12 +1,12 @@
 -- The bytes of one bank alone are those of RAM.
-use Rattle.std.proofs.Common.{◌≡◌, ℕ, ◌+◌, ◌-◌, ◌/◌, ◌<◌, ◌≤◌, true, List, length, slice_index, map, ap, sym, subst, ◌∙◌, arith}
+use Rattle.std.proofs.Common.{◌≡◌, ℕ, ◌+◌, ◌/◌, ◌<◌, List, length, slice_index, map, ap, sym, ◌∙◌, arith}
 use Rattle.std.specs.List.{range_with_len}
 use Rattle.std.proofs.lemmas.List.FromFn.{fill_by_all}
 use Rattle.std.proofs.lemmas.Bool.Decides.{nat_tests}
-use Rattle.flex_base.specs.Place.{ram_base, in_ram}
+use Rattle.flex_base.specs.Place.{ram_base}
 use Rattle.flex_base.specs.Setup.{Setup}
 use Rattle.flex_base.specs.FlatMemory.{Done, byte}
-use Rattle.mem_lines.specs.Bank.{Bank, IsIn, IsKept, IsReplay, bank_of, held, spot}
+use Rattle.mem_lines.specs.Bank.{Bank, IsIn, IsKept, IsReplay, bank_of, spot}
 
 -- one bank holds the bytes of RAM in their order
 spot_alone : (i : ℕ) → spot 1 (ram_base + i) ≡ i
@@ -24,6 +24,6 @@ pub bytes_are_ram : (setup : Setup) (made : List Done) (b : Bank) → IsKept b.r
 bytes_are_ram setup made b kept replay alone =
     let size : length b.bytes ≡ setup.ram = kept.whole.part ∙ ap (λ n. b.ram / n) alone ∙ omega (arith, replay.ram) in
     fill_by_all (λ i. byte setup.image made (ram_base + i)) b.bytes setup.ram 0 size (λ i below.
-      let here = alone_in b i kept alone (omega (arith, below, replay.ram)) in
-      let place : i ≡ spot b.banks (ram_base + i) = sym (ap (λ n. spot n (ram_base + i)) alone ∙ spot_alone i) in
-      ap (λ k. slice_index b.bytes k) place ∙ replay.each (ram_base + i) here)
+    let here = alone_in b i kept alone (omega (arith, below, replay.ram)) in
+    let place : i ≡ spot b.banks (ram_base + i) = sym (ap (λ n. spot n (ram_base + i)) alone ∙ spot_alone i) in
+    ap (λ k. slice_index b.bytes k) place ∙ replay.each (ram_base + i) here)

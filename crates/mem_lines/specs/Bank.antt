@@ -1,5 +1,6 @@
 -- One bank of memory, as contracts see it, and what it stands for.
-use Rattle.std.specs.Prelude.{◌≡◌, ℕ, ◌+◌, ◌-◌, ◌*◌, ◌/◌, ◌%◌, ◌<◌, ◌≤◌, Bool, true, if◌then◌else◌, List, length, slice_index, slice_index_or, Option, None}
+use Rattle.std.specs.Prelude.{◌≡◌, ℕ, ◌+◌, ◌-◌, ◌*◌, ◌/◌, ◌%◌, ◌<◌, ◌≤◌, Bool, true, if◌then◌else◌, List, length, slice_index, slice_index_or, Option, None, Some}
+use Rattle.std.specs.List.{sum_by}
 use Rattle.flex_base.specs.Limits.{mebibyte}
 use Rattle.flex_base.specs.Word.{is_multiple}
 use Rattle.flex_base.specs.Place.{ram_base, in_ram}
@@ -36,6 +37,17 @@ held b address = slice_index b.bytes (spot b.banks address)
 -- the aligned 8 bytes that a hart has reserved
 abbrev pub reserved : Bank → ℕ → Option ℕ
 reserved b hart = slice_index_or b.places hart None
+
+-- 1 where there is one
+abbrev pub one_where_some : Option ℕ → ℕ
+one_where_some None = 0
+one_where_some (Some g) = 1
+
+-- so many reservations stand, all of harts below this one
+pub record IsCounted (places : List (Option ℕ)) (standing harts : ℕ) : Type 0 where
+  pub standing_are : standing ≡ sum_by one_where_some places
+  pub few : harts ≤ 32
+  pub above : (hart : ℕ) → harts ≤ hart → slice_index_or places hart None ≡ None
 
 -- the address is in RAM and in this bank
 pub record IsIn (b : Bank) (address : ℕ) : Type 0 where

@@ -1,4 +1,4 @@
-ghost use Rattle.std.specs.Prelude.{◌≡◌, ℕ, ◌*◌, ◌≤◌, true, slice_index, IfOk};
+ghost use Rattle.std.specs.Prelude.{◌≡◌, ℕ, ◌+◌, ◌*◌, ◌%◌, ◌<◌, ◌≤◌, true, length, slice_index, IfOk};
 ghost use Rattle.std.specs.List.{fold, list_all};
 ghost use Rattle.flex_base.specs.Loaded.{part_fits};
 ghost use Rattle.flex_base.specs.Limits.{mebibyte};
@@ -8,6 +8,7 @@ ghost use Rattle.mem_lines.specs.Bank.{IsWhole, is_bank_count, bank_of, spot, la
 
 use crate::spots::spot;
 use std::alloc::{AllocError, Global};
+use std::cmp::min;
 
 // This bank's bytes of the parts, written over zeros.
 pub(crate) fn bank_bytes(
@@ -51,15 +52,35 @@ pub(crate) fn write_parts(bytes: &mut [u8], banks: u8, bank: u8, parts: &[(u64, 
     }
 }
 
-// Writes the bytes of a part that are this bank's.
+// Writes the bytes of a part that are this bank's, a line at a time.
 fn write_part(bytes: &mut [u8], banks: u8, bank: u8, address: u64, part: &[u8])
     requires fits { (ram : ℕ) × IsWhole ram banks bytes.old × (part_fits ram (address, part.now) ≡ true) }
     ensures { (a : ℕ) → ram_base ≤ a → bank_of banks a ≡ bank → slice_index bytes.new (spot banks a) ≡ laid a (slice_index bytes.old (spot banks a)) (address, part.now) }
 {
-    for (i, byte) in part.iter().enumerate() {
-        let here = address + i as u64;
+    let mut done = 0;
+    while done < part.len() {
+        let here = address + done as u64;
+        let count = within_line(here, part.len() - done);
         if here / 64 % banks as u64 == bank as u64 {
-            bytes[spot(banks, here)] = *byte;
+            write_at(bytes, spot(banks, here), &part[done..done + count]);
         }
+        done += count;
     }
+}
+
+// How many of so many bytes, from this address on, lie in its line.
+fn within_line(address: u64, count: usize) -> usize
+    ensures line { address % 64 + result ≤ 64 }
+    ensures few { result ≤ count }
+    ensures some { 0 < count → 0 < result }
+{
+    min((64 - address % 64) as usize, count)
+}
+
+// Writes a part over the bytes from this one on.
+fn write_at(bytes: &mut [u8], at: usize, part: &[u8])
+    requires { at + length part.now ≤ length bytes.old }
+    ensures { (i : ℕ) → slice_index bytes.new i ≡ laid i (slice_index bytes.old i) (at, part.now) }
+{
+    bytes[at..at + part.len()].copy_from_slice(part);
 }

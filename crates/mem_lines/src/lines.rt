@@ -12,7 +12,7 @@ ghost use Rattle.mem_lines.specs.Steps.{done, IsSpan, IsHere, Follows, reply_of}
 
 use crate::image_bytes::bank_bytes;
 use crate::little_endian::{load, store};
-use crate::reservations::{end_others, granule_of, stands};
+use crate::reservations::{Reservations, granule_of};
 use crate::spots::spot;
 use flex_base::{Access, AmoOp, HartId, Image, Reply, Settings};
 use rv_alu::amo;
@@ -30,7 +30,7 @@ pub struct Lines {
     banks: u8,
     bank: u8,
     bytes: Vec<u8>,
-    places: [Option<u64>; 32],
+    reservations: Reservations,
 }
 
 impl Model for Lines {
@@ -38,7 +38,7 @@ impl Model for Lines {
 
     ghost Value = { Bank };
 
-    ghost view = { λ l. record { ram = l.ram; banks = l.banks; bank = l.bank; bytes = l.bytes.items; places = l.places } };
+    ghost view = { λ l. record { ram = l.ram; banks = l.banks; bank = l.bank; bytes = l.bytes.items; places = l.reservations } };
 
     ghost invariant = { λ l. IsKept l.ram l.banks l.bank l.bytes.items };
 }
@@ -69,7 +69,7 @@ impl Lines {
             banks,
             bank,
             bytes,
-            places: [None; 32],
+            reservations: Reservations::none(),
         })
     }
 
@@ -114,7 +114,7 @@ impl Lines {
         ensures bytes { result.now ≡ self.now.bytes }
         ensures whole { (setup : Setup) (made : List Done) → IsReplay setup made self.now → self.now.banks ≡ 1 → result.now ≡ map (λ i. byte setup.image made (ram_base + i)) (range_with_len 0 setup.ram) }
     {
-        &self.bytes
+        self.bytes.as_slice()
     }
 
     // Where the bytes of an access begin.
@@ -134,7 +134,7 @@ impl Lines {
         ensures fits { result < 2 ^ (8 * width) }
     {
         let start = self.start(address, width);
-        load(&self.bytes, start, width as usize)
+        load(&self.bytes, start, width)
     }
 
     // Writes so many bytes of a value, which ends the reservations of other harts.
@@ -145,8 +145,8 @@ impl Lines {
         ensures reservations { (h : ℕ) → reserved self.new h ≡ broken h hart address (reserved self.old h) }
     {
         let start = self.start(address, width);
-        store(&mut self.bytes, start, width as usize, value);
-        end_others(&mut self.places, hart, address);
+        store(&mut self.bytes, start, width, value);
+        self.reservations.end_others(hart, address);
     }
 
     // Makes an access of what the bank holds.
@@ -194,7 +194,7 @@ impl Lines {
         ensures follows { Follows (done hart (Access.Lr address width) result) self.old self.new }
     {
         let value = self.value(address, width);
-        self.reserve(hart, Some(granule_of(address)));
+        self.reserve(hart, granule_of(address));
         told(value)
     }
 
@@ -205,12 +205,12 @@ impl Lines {
         ensures form { HasForm (Access.Sc address width value) result }
         ensures follows { Follows (done hart (Access.Sc address width value) result) self.old self.new }
     {
-        if self.has_reserved(hart, address) {
+        let reserved = self.has_reserved(hart, address);
+        self.release(hart);
+        if reserved {
             self.write(hart, address, width, value);
-            self.reserve(hart, None);
             told(0)
         } else {
-            self.reserve(hart, None);
             told(1)
         }
     }
@@ -229,13 +229,23 @@ impl Lines {
     }
 
     // Sets what a hart has reserved.
-    fn reserve(&mut self, hart: u8, place: Option<u64>)
+    fn reserve(&mut self, hart: u8, granule: u64)
         requires hart { hart < 32 }
         ensures same { IsSame self.old self.new }
         ensures each { (a : ℕ) → held self.new a ≡ held self.old a }
-        ensures reservations { (h : ℕ) → reserved self.new h ≡ (if h == hart then place else reserved self.old h) }
+        ensures reservations { (h : ℕ) → reserved self.new h ≡ (if h == hart then Some granule else reserved self.old h) }
     {
-        self.places[hart as usize] = place;
+        self.reservations.reserve(hart, granule);
+    }
+
+    // Ends a hart's reservation.
+    fn release(&mut self, hart: u8)
+        requires hart { hart < 32 }
+        ensures same { IsSame self.old self.new }
+        ensures each { (a : ℕ) → held self.new a ≡ held self.old a }
+        ensures reservations { (h : ℕ) → reserved self.new h ≡ (if h == hart then None else reserved self.old h) }
+    {
+        self.reservations.release(hart);
     }
 
     // Whether a hart's reservation of the 8 bytes of this address stands.
@@ -243,7 +253,7 @@ impl Lines {
         requires hart { hart < 32 }
         ensures { result ≡ is_reserved (reserved self.now hart) (granule address) }
     {
-        stands(self.places[hart as usize], granule_of(address))
+        self.reservations.stands(hart, granule_of(address))
     }
 }
 

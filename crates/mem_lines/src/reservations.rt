@@ -1,40 +1,94 @@
-ghost use Rattle.std.specs.Prelude.{◌≡◌, ℕ, slice_index_or, if◌then◌else◌, None};
+ghost use Rattle.std.specs.Prelude.{◌≡◌, ℕ, ◌<◌, slice_index_or, if◌then◌else◌, ◌==◌, None, Some};
 ghost use Rattle.flex_base.specs.FlatMemory.{granule, broken, is_reserved};
+
+use std::marker::Model;
+
+// What each hart has reserved.
+//
+// A write looks at the harts below `harts` alone, and at none while no reservation stands.
+#[derive(Drop)]
+pub(crate) struct Reservations {
+    places: [Option<u64>; 32],
+    // How many reservations stand.
+    standing: u64,
+    // Above each hart that has reserved something.
+    harts: u8,
+}
+
+impl Model for Reservations {
+    ghost use Rattle.std.specs.Prelude.{ℕ, List, Option};
+    ghost use Rattle.mem_lines.specs.Bank.{IsCounted};
+
+    ghost Value = { List (Option ℕ) };
+
+    ghost view = { λ r. r.places };
+
+    ghost invariant = { λ r. IsCounted r.places r.standing r.harts };
+}
+
+impl Reservations {
+    pub(crate) fn none() -> Reservations
+        ensures { (hart : ℕ) → slice_index_or result hart None ≡ None }
+    {
+        Reservations {
+            places: [None; 32],
+            standing: 0,
+            harts: 0,
+        }
+    }
+
+    // Whether a hart has reserved these 8 bytes.
+    pub(crate) fn stands(&self, hart: u8, granule: u64) -> bool
+        requires { hart < 32 }
+        ensures { result ≡ is_reserved (slice_index_or self.now hart None) granule }
+    {
+        match self.places[hart as usize] {
+            Some(reserved) => reserved == granule,
+            None => false,
+        }
+    }
+
+    pub(crate) fn reserve(&mut self, hart: u8, granule: u64)
+        requires { hart < 32 }
+        ensures { (h : ℕ) → slice_index_or self.new h None ≡ (if h == hart then Some granule else slice_index_or self.old h None) }
+    {
+        if self.places[hart as usize].is_none() {
+            self.standing += 1;
+        }
+        if self.harts <= hart {
+            self.harts = hart + 1;
+        }
+        self.places[hart as usize] = Some(granule);
+    }
+
+    pub(crate) fn release(&mut self, hart: u8)
+        requires { hart < 32 }
+        ensures { (h : ℕ) → slice_index_or self.new h None ≡ (if h == hart then None else slice_index_or self.old h None) }
+    {
+        if self.places[hart as usize].is_some() {
+            self.standing -= 1;
+            self.places[hart as usize] = None;
+        }
+    }
+
+    // Ends the reservations that a write by this hart ends, which are those of the other harts.
+    pub(crate) fn end_others(&mut self, by: u8, address: u64)
+        ensures { (hart : ℕ) → slice_index_or self.new hart None ≡ broken hart by address (slice_index_or self.old hart None) }
+    {
+        if self.standing == 0 {
+            return;
+        }
+        for hart in 0..self.harts {
+            if hart != by && self.stands(hart, granule_of(address)) {
+                self.release(hart);
+            }
+        }
+    }
+}
 
 // The aligned 8 bytes that contain the address.
 pub(crate) fn granule_of(address: u64) -> u64
     ensures { result ≡ granule address }
 {
     address - address % 8
-}
-
-// Whether a hart has reserved these 8 bytes.
-pub(crate) fn stands(place: Option<u64>, granule: u64) -> bool
-    ensures { result ≡ is_reserved place granule }
-{
-    match place {
-        Some(reserved) => reserved == granule,
-        None => false,
-    }
-}
-
-// Ends the reservations that a write by this hart ends, which are those of the other harts.
-pub(crate) fn end_others(places: &mut [Option<u64>], by: u8, address: u64)
-    ensures { (hart : ℕ) → slice_index_or places.new hart None ≡ broken hart by address (slice_index_or places.old hart None) }
-{
-    for hart in 0..places.len() {
-        if is_broken(places[hart], hart, by, address) {
-            places[hart] = None;
-        }
-    }
-}
-
-// Whether a write by a hart ends the reservation of this one.
-fn is_broken(place: Option<u64>, hart: usize, by: u8, address: u64) -> bool
-    ensures { (if result then None else place) ≡ broken hart by address place }
-{
-    match place {
-        Some(reserved) => granule_of(address) == reserved && hart != by as usize,
-        None => false,
-    }
 }

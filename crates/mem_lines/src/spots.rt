@@ -12,5 +12,8 @@ pub(crate) fn spot(banks: u8, address: u64) -> usize
     ensures { result ≡ spot banks address }
 {
     let offset = address - RAM_BASE;
+    if banks == 1 {
+        return offset as usize;
+    }
     (offset / 64 / banks as u64 * 64 + offset % 64) as usize
 }

@@ -1,10 +1,10 @@
 ghost use Rattle.std.specs.Prelude.{◌≡◌, ◌+◌, ◌≤◌, ◌<◌, ◌++◌, length};
 ghost use Rattle.flex_base.specs.State.{State};
 ghost use Rattle.hart_story.specs.StandsFor.{StandsFor};
-ghost use Rattle.flex_top.specs.TailText.{state_text, register_text, csr_text, csr_value, of_hart};
+ghost use Rattle.flex_top.specs.TailText.{state_text, register_text, csr_text, csr_value, mode_text, of_hart};
 
 use crate::text::put::{put, put_digits, put_hex, put_number, put_small};
-use flex_base::{HartId, Line};
+use flex_base::{HartId, Line, Mode};
 use hart_story::Hart;
 
 const MSTATUS: u16 = 0x300;
@@ -27,9 +27,11 @@ pub fn hart_line(id: HartId, hart: &Hart, into: &mut Line)
     into.clear();
     put_hart(into, id);
     put(into, b" ends ");
-    put_number(into, hart.ends);
-    put(into, b" mode m pc ");
-    put_hex(into, hart.pc);
+    put_number(into, hart.regs.ends);
+    put(into, b" mode ");
+    put_mode(into, hart.regs.mode);
+    put(into, b" pc ");
+    put_hex(into, hart.regs.pc);
     put(into, b"\n");
 }
 
@@ -40,7 +42,7 @@ pub fn register_line(id: HartId, hart: &Hart, register: u8, into: &mut Line)
     ensures { (a : State) → StandsFor hart.now a → into.new ≡ register_text id.0 a register }
 {
     into.clear();
-    let value = hart.x[register as usize];
+    let value = hart.regs.x[register as usize];
     if value != 0 {
         put_hart(into, id);
         put(into, b" x");
@@ -75,9 +77,22 @@ fn csr_value(hart: &Hart, number: u16) -> u64
     if number == MSTATUS {
         0xa_0000_0000
     } else if number == MCYCLE || number == MINSTRET {
-        hart.ends
+        hart.regs.ends
     } else {
         0
+    }
+}
+
+// A mode, by its letter.
+fn put_mode(line: &mut Line, mode: Mode)
+    requires { length line.old + 1 ≤ 128 }
+    ensures text { line.new ≡ line.old ++ mode_text mode }
+    ensures room { length line.new ≡ length line.old + 1 }
+{
+    match mode {
+        Mode::U => put(line, b"u"),
+        Mode::S => put(line, b"s"),
+        Mode::M => put(line, b"m"),
     }
 }
 

@@ -1,6 +1,6 @@
 // Parts of a line, each put at its end.
 
-ghost use Rattle.std.specs.Prelude.{◌≡◌, ◌+◌, ◌≤◌, ◌<◌, ◌++◌, [], ◌∷◌, length, decimal};
+ghost use Rattle.std.specs.Prelude.{◌≡◌, ◌+◌, ◌/◌, ◌%◌, ◌^◌, ◌≤◌, ◌<◌, ◌++◌, length, take, decimal};
 ghost use Rattle.flex_top.specs.EventText.{hex_digit, hex_digits, hex, flag, span_text};
 
 use flex_base::Line;
@@ -32,15 +32,34 @@ pub(crate) fn put_small(line: &mut Line, n: u8)
 }
 
 // So many hexadecimal digits of a number, in lower case, leading zeros among them.
-pub(crate) fn put_digits(line: &mut Line, count: u8, n: u64)
-    requires { length line.old + count ≤ 128 }
+pub(crate) fn put_digits(line: &mut Line, count: usize, n: u64)
+    requires count { count ≤ 16 }
+    requires fits { length line.old + count ≤ 128 }
     ensures text { line.new ≡ line.old ++ hex_digits count n }
     ensures room { length line.new ≡ length line.old + count }
 {
-    if count > 0 {
-        put_digits(line, count - 1, n / 16);
-        put(line, &[hex_digit((n % 16) as u8)]);
+    let digits = digits_of(count, n);
+    put(line, &digits[..count]);
+}
+
+// The digits, the first of which come first.
+fn digits_of(count: usize, n: u64) -> [u8; 16]
+    requires { count ≤ 16 }
+    ensures { take count result ≡ hex_digits count n }
+{
+    let mut digits = [0; 16];
+    for i in 0..count {
+        digits[i] = hex_digit(digit_at(n, count - 1 - i));
     }
+    digits
+}
+
+// The digit of 16 to this power.
+fn digit_at(n: u64, power: usize) -> u8
+    requires { power < 16 }
+    ensures { result ≡ n / 16 ^ power % 16 }
+{
+    ((n >> (4 * power as u32)) % 16) as u8
 }
 
 fn hex_digit(n: u8) -> u8

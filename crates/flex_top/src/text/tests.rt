@@ -182,12 +182,9 @@ fn writes_the_lines_around_the_events(rt: HostRuntime) {
 #[test]
 fn writes_the_lines_of_a_hart(rt: HostRuntime) {
     let mut line = Line::new();
-    let mut hart = Hart {
-        pc: 0x8000_0004,
-        x: [0; 32],
-        ends: 3,
-    };
-    hart.x[31] = 0xfed;
+    let mut hart = Hart::start(HartId(0), 0x8000_0004);
+    hart.regs.ends = 3;
+    hart.regs.x[31] = 0xfed;
     hart_line(HartId(12), &hart, &mut line);
     assert_line(&rt, &line, "hart 12 ends 3 mode m pc 0000000080000004\n");
     register_line(HartId(12), &hart, 31, &mut line);

@@ -24,8 +24,8 @@ fn write_small(alloc: Global, failing: &[u64]) -> Result<(MemoryOuter, bool), Al
     let mut outer = MemoryOuter::new(alloc, Vec::new(alloc), failing);
     let mut pieces = Pieces::new(alloc)?;
     let mut first = Hart::start(HartId(0), 0x8000_0004);
-    first.ends = 3;
-    first.x[5] = 7;
+    first.regs.ends = 3;
+    first.regs.x[5] = 7;
     let trace = Trace {
         settings: Settings {
             harts: 2,

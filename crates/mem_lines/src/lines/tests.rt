@@ -171,6 +171,17 @@ fn a_store_conditional_ends_the_reservation(rt: HostRuntime) -> Result<(), Fail>
     Ok(())
 }
 
+// The accesses that load so many bytes, twice where a single kind does.
+fn loads(address: u64, width: u8) -> [Access; 2] {
+    let load = Access::Read { address, width };
+    let other = match width {
+        4 => Access::Fetch { address },
+        8 => Access::Pte { address },
+        _ => Access::Read { address, width },
+    };
+    [load, other]
+}
+
 #[test]
 fn each_kind_acts_on_the_bytes_of_its_width(rt: HostRuntime) -> Result<(), Fail> {
     let value = 0xf8f7_f6f5_f4f3_f2f1;
@@ -187,11 +198,9 @@ fn each_kind_acts_on_the_bytes_of_its_width(rt: HostRuntime) -> Result<(), Fail>
         ] {
             let address = place + offset;
             let mut lines = bank(&rt, rt.alloc(), 1, 0)?;
-            assert_eq!(rt;
-                read(&rt, &mut lines, address, width),
-                old,
-                "at {address:x}"
-            );
+            for acc in loads(address, width) {
+                assert_eq!(rt; told(&rt, &mut lines, 0, acc), old, "at {address:x}");
+            }
             write(&rt, &mut lines, 0, address, width, value);
             assert_eq!(rt; read(&rt, &mut lines, place, 8), new, "at {address:x}");
         }
@@ -253,18 +262,34 @@ fn atomic_kinds_act_on_the_bytes_of_their_width(rt: HostRuntime) -> Result<(), F
             );
         }
     }
-    let mut lines = bank(&rt, rt.alloc(), 1, 0)?;
-    assert_eq!(rt;
-        told(
-            &rt,
-            &mut lines,
-            0,
-            Access::Fetch {
-                address: 0x800f_fffc
-            }
-        ),
-        0x0807_0605
-    );
+    Ok(())
+}
+
+#[test]
+fn bytes_are_those_of_the_lines_in_order(rt: HostRuntime) -> Result<(), Fail> {
+    // Of so many banks this one, how many bytes it has, and what stands at an index.
+    for (banks, number, length, index, byte) in [
+        (1, 0, 0x10_0000, 0x37, 0xee),
+        (1, 0, 0x10_0000, 0x38, 1),
+        (1, 0, 0x10_0000, 0x47, 8),
+        (1, 0, 0x10_0000, 0x48, 0),
+        (1, 0, 0x10_0000, 0xf_ffff, 8),
+        (4, 0, 0x4_0000, 0x3f, 8),
+        (4, 0, 0x4_0000, 0x40, 0),
+        (4, 1, 0x4_0000, 0, 1),
+        (4, 1, 0x4_0000, 8, 0),
+        (4, 3, 0x4_0000, 0x3_fff8, 1),
+        (4, 3, 0x4_0000, 0x3_ffff, 8),
+    ] {
+        let lines = bank(&rt, rt.alloc(), banks, number)?;
+        let bytes = lines.bytes();
+        assert_eq!(rt; bytes.len(), length);
+        assert_eq!(rt;
+            bytes.get(index).copied(),
+            Some(byte),
+            "{index:x} of bank {number} of {banks}"
+        );
+    }
     Ok(())
 }
 

@@ -1,27 +1,35 @@
 -- What is wanted follows from where the replies lead.
-use Rattle.std.proofs.Common.{ap, sym, ◌∙◌}
-use Rattle.flex_base.specs.FlatMemory.{reply_with}
-use Rattle.flex_base.specs.Story.{want, after_one}
-use Rattle.hart_story.specs.Progressing.{node}
+use Rattle.std.proofs.Common.{ap, sym, subst, ◌∙◌}
+use Rattle.flex_base.specs.State.{State}
+use Rattle.flex_base.specs.Story.{want}
+use Rattle.hart_story.specs.Progressing.{node, IsSoundProgress}
 use Rattle.hart_story.specs.Telling.{told}
+use Rattle.hart_story.specs.declared.progress.Progress.{Progress}
+use Rattle.hart_story.proofs.Asking.{shows}
 use Rattle.hart_story.proofs.story.need.Goals as goal
 
-pub returns-in-Fetched-clause-told : goal.returns-in-Fetched-clause-told
-returns-in-Fetched-clause-told c = λ setup a replies at.
-    let here = at.reached ∙ ap (node setup a) c.in-Fetched.is ∙ c.work.ensures.works setup c.args.budget a at.of at.stands in
-    c.outcome_need.ensures.told c.args.layout.now c.args.hart.now a c.work.ensures.sound ∙ ap (λ s. told (want s)) (sym here)
+pub returns-in-Pulsed-clause-told : goal.returns-in-Pulsed-clause-told
+returns-in-Pulsed-clause-told c = λ setup a replies at.
+    let here = at.reached ∙ ap (node setup a) c.in-Pulsed.is in
+    let now : State = record a { lines = c.in-Pulsed.field-0 } in
+    c.fetch_need.ensures.told setup c.args.budget now at.of (shows c.args.hart.now a c.in-Pulsed.field-0 at.stands) ∙ ap (λ s. told (want s)) (sym here)
 
-pub returns-in-Fetched-clause-placed : goal.returns-in-Fetched-clause-placed
-returns-in-Fetched-clause-placed c = λ setup a replies at. c.outcome_need.ensures.placed setup c.args.budget c.args.layout.now c.args.hart.now at.of c.work.ensures.sound
+pub returns-in-Pulsed-clause-reserved : goal.returns-in-Pulsed-clause-reserved
+returns-in-Pulsed-clause-reserved c = λ setup a replies at. c.fetch_need.ensures.reserved a
 
-pub returns-in-Answered-clause-told : goal.returns-in-Answered-clause-told
-returns-in-Answered-clause-told c = λ setup a replies at.
-    let here = at.reached ∙ ap (node setup a) c.in-Answered.is
-    ∙ ap (λ s. after_one s (reply_with c.in-Answered.value)) (c.work-in-Answered.ensures.works setup c.args.budget a at.of at.stands)
-    ∙ c.after.ensures.after a at.stands in
-    let sound = c.after.ensures.sound c.args.layout.now c.work-in-Answered.ensures.sound in
-    c.outcome_need-in-Answered.ensures.told c.args.layout.now c.args.hart.now a sound ∙ ap (λ s. told (want s)) (sym here)
+pub returns-in-Working-clause-told : goal.returns-in-Working-clause-told
+returns-in-Working-clause-told c = λ setup a replies at.
+    let Sound : Progress → Type 0 = λ p. IsSoundProgress c.args.layout.now c.args.hart.now p in
+    let sound = subst Sound c.in-Working.is at.sound in
+    let here = at.reached ∙ ap (node setup a) c.in-Working.is in
+    c.outcome_need.ensures.told c.args.layout.now c.args.hart.now (record a { lines = c.in-Working.field-0 }) sound ∙ ap (λ s. told (want s)) (sym here)
 
-pub returns-in-Answered-clause-placed : goal.returns-in-Answered-clause-placed
-returns-in-Answered-clause-placed c = λ setup a replies at.
-    c.outcome_need-in-Answered.ensures.placed setup c.args.budget c.args.layout.now c.args.hart.now at.of (c.after.ensures.sound c.args.layout.now c.work-in-Answered.ensures.sound)
+pub returns-in-Working-clause-placed : goal.returns-in-Working-clause-placed
+returns-in-Working-clause-placed c = λ setup a replies at.
+    let Sound : Progress → Type 0 = λ p. IsSoundProgress c.args.layout.now c.args.hart.now p in
+    c.outcome_need.ensures.placed setup c.args.budget c.args.layout.now c.args.hart.now at.of (subst Sound c.in-Working.is at.sound)
+
+pub returns-in-Working-clause-reserved : goal.returns-in-Working-clause-reserved
+returns-in-Working-clause-reserved c = λ setup a replies at.
+    let Sound : Progress → Type 0 = λ p. IsSoundProgress c.args.layout.now c.args.hart.now p in
+    c.outcome_need.ensures.reserved c.args.layout.now c.args.hart.now a (shows c.args.hart.now a a.lines at.stands) (subst Sound c.in-Working.is at.sound)

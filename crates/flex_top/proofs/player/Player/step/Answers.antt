@@ -9,8 +9,9 @@ use Rattle.flex_base.specs.Split.{part}
 use Rattle.flex_base.specs.declared.access.Reply.{Reply}
 use Rattle.flex_base.specs.declared.event.What.TheVariants as what
 use Rattle.flex_base.proofs.Turns.{turn_of-asks, turn_of-ends, turn_of-over, turn_of-begins}
-use Rattle.hart_story.specs.Progressing.{IsIn, IsAsking, node, is_retired}
+use Rattle.hart_story.specs.Progressing.{IsIn, IsSoundProgress, IsAsking, node, is_retired}
 use Rattle.hart_story.specs.declared.hart.Hart.{Hart}
+use Rattle.hart_story.specs.declared.progress.Progress.{Progress}
 use Rattle.hart_story.proofs.Asking.{ends_unretired}
 use Rattle.hart_story.proofs.Told.{told_asks, told_ends, told_unbuilt}
 use Rattle.flex_top.specs.Memory.{Keeps, replayed}
@@ -92,11 +93,13 @@ returns-in_ok-add-in-Finish-clause-after c = λ setup u at.
     let ending = told_ends c.in-Finish.field-0 (want_of setup u h) told in
     let there = in_hart setup u player h c.index_mut-in-Finish.result.now c.index-in-Finish.result.now at below c.index_mut-in-Finish.ensures.value c.index-in-Finish.ensures in
     let ended = c.finish-part.ensures.ends setup (half_at u h).state (half_at u h).replies ending.part ending.after there (record { ends = ending.ends; built = ending.built }) in
+    let Sound : Progress → Type 0 = λ p. IsSoundProgress player.layout c.finish-part.new.hart p in
     let hart : IsIn setup ended.after [] c.finish-part.new.hart c.begin.result player.layout player.budget = record {
       of = there.of;
       stands = ended.stands;
       fit = ended.fit;
       reached = ap (node setup ended.after) (sym c.begin.ensures);
+      sound = subst Sound (sym c.begin.ensures) tt;
     } in
     let before = ends_unretired setup (half_at u h).state (progress_at player h) (half_at u h).replies ending.part ending.after (at.each h c.index.result.now below).in_story.reached ending.ends in
     record {
@@ -151,7 +154,7 @@ returns-in-Unbuilt-clause-after c = λ setup u at.
     let unbuilt = told_unbuilt (want_of setup u h) told in
     let begins = turn_of-begins setup u h (unbuilt_busy (want_of setup u h) unbuilt) in
     let hart = c.index-in-Unbuilt.result.now in
-    let Of : Hart → Type 0 = λ x. (half_at u h).state.pc ≡ x.pc in
+    let Of : Hart → Type 0 = λ x. (half_at u h).state.pc ≡ x.regs.pc in
     let pc = subst Of (sym c.index-in-Unbuilt.ensures) (sym (at.each h hart below).in_story.stands.pc) in
     record {
       unbuilt = unbuilt_here setup u h below unbuilt ∙ ap Some pc;

@@ -7,6 +7,6 @@ pub bounds-bytes-spot : goal.bounds-bytes-spot
 bounds-bytes-spot c =
     let f = c.self.inside in
     let inside = subst (λ (v : Bank). IsIn v c.args.address) (sym c.self.view_is) c.requires.inside in
-    let within = byte_within f.ram f.banks f.bank c.args.address f.bytes.items f.places c.self.invariant.whole inside in
+    let within = byte_within f.ram f.banks f.bank c.args.address f.bytes.items f.reservations c.self.invariant.whole inside in
     let bytes : length c.deref-bytes.result.now ≡ length f.bytes.items = ap (λ (xs : List ℕ). length xs) c.deref-bytes.ensures.value in
     omega (arith, within.2, c.spot.ensures, bytes)

@@ -7,4 +7,4 @@ pub returns-clause-whole : goal.returns-clause-whole
 returns-clause-whole c = λ setup made replay alone.
     let b = c.args.self.now in
     let kept = subst (λ (v : Bank). IsKept v.ram v.banks v.bank v.bytes) c.self.view_is c.self.invariant in
-    c.deref.ensures.value ∙ ap (λ (v : Bank). v.bytes) c.self.view_is ∙ bytes_are_ram setup made b kept replay alone
+    c.as_slice.ensures.value ∙ ap (λ (v : Bank). v.bytes) c.self.view_is ∙ bytes_are_ram setup made b kept replay alone

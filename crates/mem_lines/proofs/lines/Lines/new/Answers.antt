@@ -3,7 +3,7 @@ use Rattle.std.specs.List.{fold, list_all}
 use Rattle.flex_base.specs.Loaded.{Loaded, part_fits, image_fits}
 use Rattle.flex_base.specs.FlatMemory.{image_byte}
 use Rattle.mem_lines.specs.Bank.{laid}
-use Rattle.mem_lines.proofs.Laying.{parts_fit, image_laid, no_place}
+use Rattle.mem_lines.proofs.Laying.{parts_fit, image_laid}
 use Rattle.mem_lines.proofs.lines.Lines.new.Goals as goal
 
 pub bank_bytes-requires-clause-fit : goal.bank_bytes-requires-clause-fit
@@ -20,5 +20,5 @@ returns-clause-replay c = λ setup image_is ram_is.
     record {
       ram = sym ram_is;
       each = λ a here. c.in_ok-bytes.ensures.each a here.ram here.bank ∙ from a ∙ sym (image_laid inside.entry a inside.parts.items) ∙ ap (λ (image : Loaded). image_byte image a) (c.image.view_is ∙ sym image_is);
-      reservations = no_place;
+      reservations = λ h below. c.none.ensures h;
     }

@@ -1,7 +1,7 @@
 use Rattle.std.proofs.Common.{ap, ◌∙◌, slice_index, ◌≡◌, ℕ, List}
 use Rattle.flex_base.specs.FlatMemory.{value_at}
 use Rattle.mem_lines.specs.Bank.{Bank}
-use Rattle.mem_lines.proofs.Dealing.{span_value, in_bits}
+use Rattle.mem_lines.proofs.Dealing.{span_value}
 use Rattle.mem_lines.proofs.lines.Lines.value.Goals as goal
 
 pub returns-clause-value : goal.returns-clause-value
@@ -12,6 +12,3 @@ returns-clause-value c =
     ∙ ap (λ (xs : List ℕ). value_at (λ i. slice_index xs i) c.start-start.result c.args.width) bytes
     ∙ ap (λ n. value_at (λ i. slice_index b.bytes i) n c.args.width) c.start-start.ensures.start
     ∙ span_value b c.args.address c.args.width c.requires.span
-
-pub returns-clause-fits : goal.returns-clause-fits
-returns-clause-fits c = in_bits c.args.width c.requires.span.width_is c.load.result c.load.ensures.fits

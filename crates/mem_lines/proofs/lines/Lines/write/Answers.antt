@@ -10,4 +10,4 @@ returns-clause-each c =
     let f = c.self.inside in
     let start = c.start-start.result in
     let each = λ (i : ℕ). c.store.ensures i ∙ ap (λ (xs : List ℕ). put i (slice_index xs i) start c.args.width c.args.value) c.deref_mut.ensures.value in
-    λ a inside. ap (λ (xs : List ℕ). slice_index xs (spot f.banks a)) (with_items_is f.bytes c.store.new.bytes (omega arith)) ∙ written f.ram f.banks f.bank f.bytes.items c.store.new.bytes f.places c.args.self.now start c.args.address c.args.width c.args.value c.self.view_is c.self.invariant.whole c.requires.span c.start-start.ensures.start each a inside
+    λ a inside. ap (λ (xs : List ℕ). slice_index xs (spot f.banks a)) (with_items_is f.bytes c.store.new.bytes (omega arith)) ∙ written f.ram f.banks f.bank f.bytes.items c.store.new.bytes f.reservations c.args.self.now start c.args.address c.args.width c.args.value c.self.view_is c.self.invariant.whole c.requires.span c.start-start.ensures.start each a inside

@@ -1,0 +1,144 @@
+// Whole programs: what a clause says of each event is here seen to come to what it should.
+
+use super::run;
+use crate::status::Status;
+use std::alloc::{AllocError, Global};
+use std::process::Abort;
+use std::test::Fail;
+
+// The bytes of an image of these words.
+fn image_of(alloc: Global, words: &[u32]) -> Result<Vec<u8>, AllocError> {
+    let mut image = Vec::new(alloc);
+    for word in words {
+        image.extend_from_slice(&word.to_le_bytes())?;
+    }
+    Ok(image)
+}
+
+// Stores -2 of every width at the end of 1 MiB of RAM and at its beginning, and loads it again; the last store is outside.
+const ENDS_OF_RAM: [u32; 22] = [
+    0x00000297, 0x00100337, 0x00530333, 0xffe00393, 0xfe730fa3, 0xfff34403, 0xfe731f23, 0xffe35483,
+    0xfe732e23, 0xffc36583, 0xfe733c23, 0xff832603, 0xff833683, 0x0072b023, 0x0002b703, 0x0002a023,
+    0x00429783, 0x00029323, 0x00528803, 0x00028223, 0x0002b883, 0x00730023,
+];
+
+#[test]
+fn reaches_both_ends_of_ram(rt: HostRuntime) -> Result<(), Fail> {
+    let image = image_of(rt.alloc(), &ENDS_OF_RAM)?;
+    let line = "solo img out --ram=1 --budget=21";
+    let (status, outer) = run(rt.alloc(), &image, line, &[])?;
+    assert_eq!(rt; status, Status::Ended);
+    let text = str::from_utf8(outer.written("out").unwrap_or(b"")).unwrap_or("");
+    for want in [
+        " p write 00000000800fffff 1 00000000000000fe\n",
+        " p read 00000000800fffff 1 00000000000000fe\n",
+        " p write 00000000800ffffe 2 000000000000fffe\n",
+        " p read 00000000800ffffe 2 000000000000fffe\n",
+        " p write 00000000800ffffc 4 00000000fffffffe\n",
+        " p read 00000000800ffffc 4 00000000fffffffe\n",
+        " p write 00000000800ffff8 8 fffffffffffffffe\n",
+        " p read 00000000800ffff8 4 00000000fffffffe\n",
+        " p read 00000000800ffff8 8 fffffffffffffffe\n",
+        " p write 0000000080000000 8 fffffffffffffffe\n",
+        " p write 0000000080000000 4 0000000000000000\n",
+        " p read 0000000080000004 2 000000000000ffff\n",
+        " p write 0000000080000006 2 0000000000000000\n",
+        " p read 0000000080000005 1 00000000000000ff\n",
+        " p write 0000000080000004 1 0000000000000000\n",
+        " p read 0000000080000000 8 0000ff0000000000\n",
+        "\nhart 0 x8 00000000000000fe\nhart 0 x9 000000000000fffe\nhart 0 x11 00000000fffffffe\nhart 0 x12 fffffffffffffffe\n",
+        "\nhart 0 x15 ffffffffffffffff\nhart 0 x16 ffffffffffffffff\nhart 0 x17 0000ff0000000000\n",
+    ] {
+        assert!(rt; text.contains(want), "no {want}");
+    }
+    let line = "solo img out --ram=1 --budget=22";
+    let (status, _) = run(rt.alloc(), &image, line, &[])?;
+    assert_eq!(rt; status, Status::Unbuilt(Some(0x8000_0054)));
+    Ok(())
+}
+
+// Each adds 1 to the word at 80000200 five times, and then jumps to itself: by one atomic operation, by a load-reserved and
+// a store-conditional, under a lock that an atomic swap takes, and under Peterson's algorithm by plain loads and stores.
+const BY_AMO: [u32; 8] = [
+    0x00000297, 0x20028293, 0x00100313, 0x00500393, 0x0062a42f, 0xfff38393, 0xfe039ce3, 0x0000006f,
+];
+
+const BY_RESERVATION: [u32; 10] = [
+    0x00000297, 0x20028293, 0x00500393, 0x1002a42f, 0x00140413, 0x1882a4af, 0xfe049ae3, 0xfff38393,
+    0xfe0396e3, 0x0000006f,
+];
+
+const UNDER_A_SPINLOCK: [u32; 14] = [
+    0x00000297, 0x20028293, 0x04028593, 0x00100313, 0x00500393, 0x0865a4af, 0xfe049ee3, 0x0002a403,
+    0x00140413, 0x0082a023, 0x0005a023, 0xfff38393, 0xfe0392e3, 0x0000006f,
+];
+
+const BY_PETERSON: [u32; 21] = [
+    0x00000297, 0x20028293, 0x04028593, 0x00a58633, 0x00100313, 0x40a306b3, 0x00d58733, 0x00500393,
+    0x00660023, 0x00d58123, 0x00074483, 0x00048663, 0x0025c483, 0xfed48ae3, 0x0002a403, 0x00140413,
+    0x0082a023, 0x00060023, 0xfff38393, 0xfc039ae3, 0x0000006f,
+];
+
+// The words for a run of two harts in the order of this number: they take turns of that many events, and from number 6 on
+// of pseudorandom lengths.
+fn line_of(alloc: Global, number: u64) -> Result<String, AllocError> {
+    let mut line = String::from_str(
+        alloc,
+        "solo img out --harts=2 --ram=1 --budget=600 --order=",
+    )?;
+    let mut state = number;
+    for i in 0..3000 {
+        state = (1_103_515_245 * state + 12_345) % 2_147_483_648;
+        let second = if number <= 5 {
+            i / number % 2 == 1
+        } else {
+            state / 65_536 % 2 == 1
+        };
+        line.push(if second { '1' } else { '0' })?;
+    }
+    Ok(line)
+}
+
+#[test]
+fn loses_no_update(rt: HostRuntime) -> Result<(), Fail> {
+    for (words, last) in [
+        (
+            BY_AMO.as_slice(),
+            " amo add 0000000080000200 4 0000000000000001 0000000000000009\n",
+        ),
+        (
+            BY_RESERVATION.as_slice(),
+            " sc 0000000080000200 4 000000000000000a 0\n",
+        ),
+        (
+            UNDER_A_SPINLOCK.as_slice(),
+            " write 0000000080000200 4 000000000000000a\n",
+        ),
+        (
+            BY_PETERSON.as_slice(),
+            " write 0000000080000200 4 000000000000000a\n",
+        ),
+    ] {
+        let image = image_of(rt.alloc(), words)?;
+        for number in 1..=10 {
+            assert_last(&rt, rt.alloc(), &image, number, last)?;
+        }
+    }
+    Ok(())
+}
+
+// That the run in the order of this number comes to this event.
+fn assert_last(
+    rt: &impl Abort,
+    alloc: Global,
+    image: &[u8],
+    number: u64,
+    last: &str,
+) -> Result<(), AllocError> {
+    let line = line_of(alloc, number)?;
+    let (status, outer) = run(alloc, image, &line, &[])?;
+    assert_eq!(rt; status, Status::Ended);
+    let text = str::from_utf8(outer.written("out").unwrap_or(b"")).unwrap_or("");
+    assert!(rt; text.contains(last), "order {number}: no {last}");
+    Ok(())
+}

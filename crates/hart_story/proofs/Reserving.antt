@@ -1,0 +1,11 @@
+-- The aligned 8 bytes round an address of RAM lie in RAM, which is whole MiB.
+use Rattle.std.proofs.Common.{◌≡◌, ℕ, ◌+◌, ◌-◌, ◌*◌, ◌/◌, ◌%◌, ◌≤◌, ◌<◌, Bool, true, ◌&&◌, Some, nat_le, arith}
+use Rattle.flex_base.specs.Word.{is_multiple}
+use Rattle.flex_base.specs.Limits.{mebibyte}
+use Rattle.flex_base.specs.Place.{in_ram, ram_base}
+use Rattle.flex_base.specs.Forms.{IsAtomicWidth}
+use Rattle.flex_base.specs.FlatMemory.{granule}
+use Rattle.hart_story.specs.Telling.{IsReservation}
+
+pub granule_reserved : (ram address width : ℕ) → is_multiple ram mebibyte ≡ true → IsAtomicWidth width → in_ram ram address width ≡ true → IsReservation ram (Some (granule address))
+granule_reserved ram address width whole wide inside = grind arith

@@ -1,0 +1,201 @@
+// What a hart needs at each place of an instruction.
+use super::{BUDGET, assert_fit, hart_at, layout, read, reply_of};
+use crate::work::work;
+use crate::{Hart, Need, Progress, give, need};
+use flex_base::{Access, Class};
+use std::process::Abort;
+
+#[test]
+fn needs_what_its_place_in_the_run_says(rt: HostRuntime) {
+    needs_at_the_beginning(&rt);
+    needs_after_the_pulse(&rt);
+    needs_after_the_fetch(&rt);
+    needs_of_loads_and_stores(&rt);
+    needs_of_atomics(&rt);
+    for ends in [1, 64, 100] {
+        let hart = hart_at(0x8000_0000, ends, ends % 64 == 0);
+        let progress = retire(&rt, &hart, ends);
+        assert_eq!(rt;
+            need(&hart, &progress, &layout(), ends),
+            Need::Over,
+            "at {ends}"
+        );
+    }
+}
+
+// By the pc, the ends and whether a pulse is due, at a budget of 100.
+fn needs_at_the_beginning(rt: &impl Abort) {
+    let retirement = Need::Ask(Access::Retire, Class::Pulse);
+    let table = [
+        (0x8000_0000, 0, false, fetch(0x8000_0000)),
+        (0x800f_fffc, 1, false, fetch(0x800f_fffc)),
+        (0x8010_0000, 1, false, Need::Unbuilt),
+        (0x7fff_fffc, 1, false, Need::Unbuilt),
+        (0x8000_0000, 64, false, fetch(0x8000_0000)),
+        (0x8000_0000, 64, true, pulse(true)),
+        (0x8010_0000, 64, true, pulse(true)),
+        (0x8000_0000, 65, true, pulse(false)),
+        (0x8000_0000, 0, true, pulse(false)),
+        (0x8000_0000, 99, false, fetch(0x8000_0000)),
+        (0x8000_0000, 100, true, retirement),
+        (0x8010_0000, 100, false, retirement),
+    ];
+    for (pc, ends, due, want) in table {
+        let hart = hart_at(pc, ends, due);
+        let told = need(&hart, &Progress::begin(), &layout(), BUDGET);
+        assert_eq!(rt; told, want, "at {pc:x} after {ends}, {due}");
+    }
+    let hart = hart_at(0x8000_0000, 128, true);
+    let told = need(&hart, &Progress::begin(), &layout(), 129);
+    assert_eq!(rt; told, pulse(true));
+}
+
+fn pulse(tick: bool) -> Need {
+    Need::Ask(Access::Pulse { tick }, Class::Pulse)
+}
+
+fn fetch(address: u64) -> Need {
+    Need::Ask(Access::Fetch { address }, Class::Fetch)
+}
+
+// A pulse comes before the fetch, at the same ends.
+fn needs_after_the_pulse(rt: &impl Abort) {
+    for (pc, want) in [
+        (0x8000_0000, fetch(0x8000_0000)),
+        (0x8010_0000, Need::Unbuilt),
+    ] {
+        let hart = hart_at(pc, 64, true);
+        let told = need(&hart, &Progress::Pulsed(0), &layout(), BUDGET);
+        assert_eq!(rt; told, want, "at {pc:x}");
+    }
+}
+
+// What a hart needs that has fetched this word.
+fn need_of(hart: &Hart, word: u32) -> Need {
+    let layout = layout();
+    let progress = Progress::Working(0, work(hart, &layout, word));
+    need(hart, &progress, &layout, BUDGET)
+}
+
+fn needs_after_the_fetch(rt: &impl Abort) {
+    let table = [
+        // addi x5, x0, 7
+        (0x00700293, Need::Finish(Class::Alu)),
+        // jal x0, 0
+        (0x0000006f, Need::Finish(Class::Jump)),
+        // jal x0, 2
+        (0x0020006f, Need::Unbuilt),
+        // jalr x1, 3(x0), whose lowest bit is cleared
+        (0x003000e7, Need::Unbuilt),
+        // beq x0, x0, 8 and bne x0, x0, 2
+        (0x00000463, Need::Finish(Class::Jump)),
+        (0x00001163, Need::Finish(Class::Jump)),
+        // beq x0, x0, 2
+        (0x00000163, Need::Unbuilt),
+        // fence and fence.i
+        (0x0ff0000f, Need::Finish(Class::Fence)),
+        (0x0000100f, Need::Finish(Class::Fence)),
+        // lui x5, 1 and sub x5, x6, x7
+        (0x000012b7, Need::Finish(Class::Alu)),
+        (0x407302b3, Need::Finish(Class::Alu)),
+        // mul x5, x6, x7
+        (0x027302b3, Need::Finish(Class::Muldiv)),
+        // ecall and no instruction
+        (0x00000073, Need::Unbuilt),
+        (0x00000000, Need::Unbuilt),
+    ];
+    for (word, want) in table {
+        assert_eq!(rt;
+            need_of(&hart_at(0x8000_0000, 0, false), word),
+            want,
+            "{word:x}"
+        );
+    }
+}
+
+// `x6` is the start of RAM, `x7` its end, and `x5` what a store writes.
+fn hart_of_accesses() -> Hart {
+    let mut hart = hart_at(0x8000_0000, 0, false);
+    hart.regs.x[5] = 0x0123_4567_89ab_cdef;
+    hart.regs.x[6] = 0x8000_0000;
+    hart.regs.x[7] = 0x8010_0000;
+    hart
+}
+
+fn write(address: u64, width: u8, value: u64) -> Need {
+    Need::Ask(
+        Access::Write {
+            address,
+            width,
+            value,
+        },
+        Class::Store,
+    )
+}
+
+fn needs_of_loads_and_stores(rt: &impl Abort) {
+    let table = [
+        // lb, lh, lw, ld, lbu, lhu and lwu x5, 0(x6)
+        (0x00030283, read(0x8000_0000, 1)),
+        (0x00031283, read(0x8000_0000, 2)),
+        (0x00032283, read(0x8000_0000, 4)),
+        (0x00033283, read(0x8000_0000, 8)),
+        (0x00034283, read(0x8000_0000, 1)),
+        (0x00035283, read(0x8000_0000, 2)),
+        (0x00036283, read(0x8000_0000, 4)),
+        // sb, sh, sw and sd x5, 0(x6)
+        (0x00530023, write(0x8000_0000, 1, 0xef)),
+        (0x00531023, write(0x8000_0000, 2, 0xcdef)),
+        (0x00532023, write(0x8000_0000, 4, 0x89ab_cdef)),
+        (0x00533023, write(0x8000_0000, 8, 0x0123_4567_89ab_cdef)),
+        // lb x5, -1(x7), ld x5, -8(x7) and sd x5, -8(x7)
+        (0xfff38283, read(0x800f_ffff, 1)),
+        (0xff83b283, read(0x800f_fff8, 8)),
+        (0xfe53bc23, write(0x800f_fff8, 8, 0x0123_4567_89ab_cdef)),
+        // ld x5, 0(x7), and lb x5, -1(x6)
+        (0x0003b283, Need::Unbuilt),
+        (0xfff30283, Need::Unbuilt),
+        // lh x5, 1(x6), lw x5, 2(x6), ld x5, 4(x6), and sw x5, 0(x0)
+        (0x00131283, Need::Unbuilt),
+        (0x00232283, Need::Unbuilt),
+        (0x00433283, Need::Unbuilt),
+        (0x00502023, Need::Unbuilt),
+    ];
+    for (word, want) in table {
+        assert_eq!(rt; need_of(&hart_of_accesses(), word), want, "{word:x}");
+    }
+}
+
+// Atomic instructions at places that aren't theirs: a store-conditional is tested for them first,
+// and looks at its reservation then.
+fn needs_of_atomics(rt: &impl Abort) {
+    let mut hart = hart_of_accesses();
+    hart.regs.x[8] = 0x8000_0004;
+    hart.regs.x[9] = 0x8000_0002;
+    hart.regs.x[15] = 0x7fff_fff8;
+    let table = [
+        // lr.d x10, (x8), lr.w x10, (x9), lr.w x10, (x7) and lr.w x10, (x15)
+        0x1004352f, 0x1004a52f, 0x1003a52f, 0x1007a52f,
+        // sc.d x10, x5, (x8), sc.w x10, x5, (x7), sc.w x10, x5, (x15) and sc.w x10, x5, (x0)
+        0x1854352f, 0x1853a52f, 0x1857a52f, 0x1850252f,
+        // amoswap.d x10, x5, (x8) and amoor.w x10, x5, (x15)
+        0x0854352f, 0x4057a52f,
+    ];
+    for word in table {
+        assert_eq!(rt; need_of(&hart, word), Need::Unbuilt, "{word:x}");
+    }
+}
+
+// How far the hart has come that has spent its budget and retires.
+fn retire(rt: &impl Abort, hart: &Hart, budget: u64) -> Progress {
+    let layout = layout();
+    assert_fit(rt, hart, budget);
+    let mut progress = Progress::begin();
+    match need(hart, &progress, &layout, budget) {
+        Need::Ask(Access::Retire, Class::Pulse) => {
+            give(hart, &mut progress, &layout, budget, reply_of(0));
+            progress
+        }
+        _ => rt.abort(),
+    }
+}

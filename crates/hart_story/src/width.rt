@@ -1,0 +1,61 @@
+// Values and addresses by their width.
+ghost use Rattle.std.specs.Prelude.{◌≡◌, ◌*◌, ◌^◌, ◌<◌, ◌≤◌, ◌&&◌};
+ghost use Rattle.flex_base.specs.Word.{low, is_multiple, sign_extend};
+ghost use Rattle.flex_base.specs.Place.{in_ram};
+ghost use Rattle.flex_base.specs.Forms.{IsWidth};
+ghost use Rattle.flex_base.specs.Story.{extended};
+
+use flex_base::{Layout, Place};
+
+// Whether so many bytes lie aligned in RAM. Elsewhere the access is an exception, or a device's.
+pub(crate) fn is_reached(layout: &Layout, address: u64, width: u8) -> bool
+    requires { IsWidth width }
+    ensures { result ≡ (is_multiple address width && in_ram layout.now.ram address width) }
+{
+    address % width as u64 == 0 && matches!(layout.place(address, width), Place::Ram)
+}
+
+// The lowest bytes of a value.
+pub(crate) fn cut(width: u8, value: u64) -> u64
+    requires { IsWidth width }
+    ensures { result ≡ low (8 * width) value }
+{
+    if width == 8 {
+        value
+    } else {
+        lowest(8 * width as u32, value)
+    }
+}
+
+// The lowest bits of a value.
+fn lowest(bits: u32, value: u64) -> u64
+    requires { bits < 64 }
+    ensures { result ≡ low bits value }
+{
+    value & ((1 << bits) - 1)
+}
+
+// The value of so many bytes as a register holds it.
+pub(crate) fn extended(signed: bool, width: u8, value: u64) -> u64
+    requires { IsWidth width }
+    ensures { result ≡ extended signed width value }
+{
+    if signed && width != 8 {
+        sign_extended(8 * width as u32, cut(width, value))
+    } else {
+        value
+    }
+}
+
+// The 64-bit value of a two's complement number of fewer bits.
+fn sign_extended(bits: u32, value: u64) -> u64
+    requires bits { (0 < bits) × (bits ≤ 32) }
+    requires fits { value < 2 ^ bits }
+    ensures { result ≡ sign_extend bits value }
+{
+    if value < 1 << (bits - 1) {
+        value
+    } else {
+        value + (u64::MAX - ((1 << bits) - 1))
+    }
+}
