@@ -156,22 +156,22 @@ at_access setup u player next h access far below at asks built hart same_layout 
     let busy = λ (other : Hart). asks_unretired setup (half_at u h).state (progress_at player h) (half_at u h).replies access (at.each h other below).in_story.reached asks in
     let far_here : progress_at next h ≡ far = ap (λ (xs : List Progress). get_or xs h progress.Begun) fars ∙ get_or-set_same player.progress.items h far progress.Begun in_progress in
     let here = λ (other : Hart).
-        hart_moves setup v h after (first other) (get_or next.harts.items h other) far (progress_at next h) next.layout next.budget
-        (half-set u h after v.harts (half_of (start h 0)) within refl)
-        (ap (λ (xs : List Hart). get_or xs h other) harts)
-        far_here
-        (spent_after u.devices h access reply built ((at.each h other below).spent ∙ busy other) ∙ sym retired)
-        (hart other) in
+    hart_moves setup v h after (first other) (get_or next.harts.items h other) far (progress_at next h) next.layout next.budget
+    (half-set u h after v.harts (half_of (start h 0)) within refl)
+    (ap (λ (xs : List Hart). get_or xs h other) harts)
+    far_here
+    (spent_after u.devices h access reply built ((at.each h other below).spent ∙ busy other) ∙ sym retired)
+    (hart other) in
     let there = λ (k : ℕ) (other : Hart) (apart : k ≢ h) (inside : k < setup.harts).
-        let InLayout : Layout → Type 0 = λ l. IsHart setup v k (get_or next.harts.items k other) (progress_at next k) l next.budget in
-        let InBudget : ℕ → Type 0 = λ b. IsHart setup v k (get_or next.harts.items k other) (progress_at next k) player.layout b in
-        subst InLayout (sym same_layout) (subst InBudget (sym same_budget)
-        (hart_stays setup u v k (get_or player.harts.items k other) (get_or next.harts.items k other) (progress_at player k) (progress_at next k) player.layout player.budget
-        (get_or-set_other u.harts h k after (half_of (start k 0)) apart)
-        (spent_other u.devices h k access reply apart)
-        (ap (λ (xs : List Hart). get_or xs k other) harts)
-        (ap (λ (xs : List Progress). get_or xs k progress.Begun) fars ∙ get_or-set_other player.progress.items h k far progress.Begun apart)
-        (at.each k other inside))) in
+    let InLayout : Layout → Type 0 = λ l. IsHart setup v k (get_or next.harts.items k other) (progress_at next k) l next.budget in
+    let InBudget : ℕ → Type 0 = λ b. IsHart setup v k (get_or next.harts.items k other) (progress_at next k) player.layout b in
+    subst InLayout (sym same_layout) (subst InBudget (sym same_budget)
+    (hart_stays setup u v k (get_or player.harts.items k other) (get_or next.harts.items k other) (progress_at player k) (progress_at next k) player.layout player.budget
+    (get_or-set_other u.harts h k after (half_of (start k 0)) apart)
+    (spent_other u.devices h k access reply apart)
+    (ap (λ (xs : List Hart). get_or xs k other) harts)
+    (ap (λ (xs : List Progress). get_or xs k progress.Begun) fars ∙ get_or-set_other player.progress.items h k far progress.Begun apart)
+    (at.each k other inside))) in
     let At : Machine → Type 0 = λ m. IsAt setup m next in
     subst At (sym (step_is setup u h (Asks access) below asks)) (record {
       some = at.some;
@@ -203,22 +203,22 @@ at_end setup u player next h made after hart far below at ends there_in begun sa
     let v = make setup u h (Ends made after) in
     let far_here : progress_at next h ≡ far = ap (λ (xs : List Progress). get_or xs h progress.Begun) fars ∙ get_or-set_same player.progress.items h far progress.Begun in_progress in
     let here = λ (other : Hart).
-        hart_moves setup v h (half_of after) hart (get_or next.harts.items h other) far (progress_at next h) next.layout next.budget
-        (half-set u h (half_of after) v.harts (half_of (start h 0)) within refl)
-        (ap (λ (xs : List Hart). get_or xs h other) harts ∙ get_or-set_same player.harts.items h hart other in_harts)
-        far_here
-        ((at.each h other below).spent ∙ before ∙ sym (ap is_retired begun))
-        there_in in
+    hart_moves setup v h (half_of after) hart (get_or next.harts.items h other) far (progress_at next h) next.layout next.budget
+    (half-set u h (half_of after) v.harts (half_of (start h 0)) within refl)
+    (ap (λ (xs : List Hart). get_or xs h other) harts ∙ get_or-set_same player.harts.items h hart other in_harts)
+    far_here
+    ((at.each h other below).spent ∙ before ∙ sym (ap is_retired begun))
+    there_in in
     let there = λ (k : ℕ) (other : Hart) (apart : k ≢ h) (inside : k < setup.harts).
-        let InLayout : Layout → Type 0 = λ l. IsHart setup v k (get_or next.harts.items k other) (progress_at next k) l next.budget in
-        let InBudget : ℕ → Type 0 = λ b. IsHart setup v k (get_or next.harts.items k other) (progress_at next k) player.layout b in
-        subst InLayout (sym same_layout) (subst InBudget (sym same_budget)
-        (hart_stays setup u v k (get_or player.harts.items k other) (get_or next.harts.items k other) (progress_at player k) (progress_at next k) player.layout player.budget
-        (get_or-set_other u.harts h k (half_of after) (half_of (start k 0)) apart)
-        refl
-        (ap (λ (xs : List Hart). get_or xs k other) harts ∙ get_or-set_other player.harts.items h k hart other apart)
-        (ap (λ (xs : List Progress). get_or xs k progress.Begun) fars ∙ get_or-set_other player.progress.items h k far progress.Begun apart)
-        (at.each k other inside))) in
+    let InLayout : Layout → Type 0 = λ l. IsHart setup v k (get_or next.harts.items k other) (progress_at next k) l next.budget in
+    let InBudget : ℕ → Type 0 = λ b. IsHart setup v k (get_or next.harts.items k other) (progress_at next k) player.layout b in
+    subst InLayout (sym same_layout) (subst InBudget (sym same_budget)
+    (hart_stays setup u v k (get_or player.harts.items k other) (get_or next.harts.items k other) (progress_at player k) (progress_at next k) player.layout player.budget
+    (get_or-set_other u.harts h k (half_of after) (half_of (start k 0)) apart)
+    refl
+    (ap (λ (xs : List Hart). get_or xs k other) harts ∙ get_or-set_other player.harts.items h k hart other apart)
+    (ap (λ (xs : List Progress). get_or xs k progress.Begun) fars ∙ get_or-set_other player.progress.items h k far progress.Begun apart)
+    (at.each k other inside))) in
     let At : Machine → Type 0 = λ m. IsAt setup m next in
     subst At (sym (step_is setup u h (Ends made after) below ends)) (record {
       some = at.some;

@@ -236,8 +236,8 @@ retired_by setup u player n h at made past below =
     let other = some_hart player.harts.items some in
     let hart = at.each h other below in
     elim (cases_Bool (is_retired (progress_at player h))) [
-    | inl retired ↦ retired
-    | inr busy ↦ let many = made other busy in absurd (omega (arith, many, past, hart.in_story.fit.within, hart.in_story.stands.ends, hart.in_story.of.budget))
+      | inl retired ↦ retired
+      | inr busy ↦ let many = made other busy in absurd (omega (arith, many, past, hart.in_story.fit.within, hart.in_story.stands.ends, hart.in_story.of.budget))
     ]
 
 -- a run in which each hart has made more ends than its budget has ended

@@ -48,19 +48,19 @@ starts file settings player bank lawful begins keeps =
     let Whole : Layout → Type 0 = λ l. is_multiple l.ram mebibyte ≡ true in
     let Kept : Bank → Type 0 = λ b. Keeps setup [] b in
     let each = λ (h : ℕ) (other : Hart) (below : h < setup.harts).
-        let hart = get_or player.harts.items h other in
-        let Sound : Progress → Type 0 = λ p. IsSoundProgress player.layout hart p in
-        let there : IsIn setup (start h ram_base) [] hart (progress_at player h) player.layout player.budget = record {
-          of = record { harts = ap (λ l. l.harts) (sym begins.layout_is); ram = ap (λ l. l.ram) (sym begins.layout_is); budget = sym begins.budget_is; whole = subst Whole (sym begins.layout_is) (lawful_whole settings lawful) };
-          stands = begins.harts.each h other below;
-          fit = record { aligned = refl; within = omega arith; reserved = tt };
-          reached = ap (node setup (start h ram_base)) (sym (begins.progress.1 h));
-          sound = subst Sound (sym (begins.progress.1 h)) tt;
-        } in
-        let AtHalf : Half → Type 0 = λ x. IsIn setup x.state x.replies hart (progress_at player h) player.layout player.budget in
-        let in_story = subst AtHalf (sym (half_at-begin setup h below)) there in
-        let first : IsHart setup (begin setup) h hart (progress_at player h) player.layout player.budget = record { in_story = in_story; spent = sym (ap is_retired (begins.progress.1 h)) } in
-        first in
+    let hart = get_or player.harts.items h other in
+    let Sound : Progress → Type 0 = λ p. IsSoundProgress player.layout hart p in
+    let there : IsIn setup (start h ram_base) [] hart (progress_at player h) player.layout player.budget = record {
+      of = record { harts = ap (λ l. l.harts) (sym begins.layout_is); ram = ap (λ l. l.ram) (sym begins.layout_is); budget = sym begins.budget_is; whole = subst Whole (sym begins.layout_is) (lawful_whole settings lawful) };
+      stands = begins.harts.each h other below;
+      fit = record { aligned = refl; within = omega arith; reserved = tt };
+      reached = ap (node setup (start h ram_base)) (sym (begins.progress.1 h));
+      sound = subst Sound (sym (begins.progress.1 h)) tt;
+    } in
+    let AtHalf : Half → Type 0 = λ x. IsIn setup x.state x.replies hart (progress_at player h) player.layout player.budget in
+    let in_story = subst AtHalf (sym (half_at-begin setup h below)) there in
+    let first : IsHart setup (begin setup) h hart (progress_at player h) player.layout player.budget = record { in_story = in_story; spent = sym (ap is_retired (begins.progress.1 h)) } in
+    first in
     record {
       some = lawful_some settings lawful;
       few = lawful_few settings lawful;

@@ -1,7 +1,7 @@
 //! The commands but `run`: the words, the image, a run on one thread, the trace text and its file.
 //!
 //! `flex_top` does what the words ask for, and tells by its status what came of it. `solo` plays
-//! one hart over a raw image and writes the trace of the run.
+//! the harts over a raw image, in a given order and then in rounds, and writes the trace of the run.
 #![tactic(auto)]
 
 mod memory;

@@ -74,12 +74,7 @@ impl Player {
         ensures counts { IfOk result (λ came. StepCounts h came self.old self.new) }
     {
         let hart = HartId(h as u8);
-        match need(
-            &self.harts[h],
-            &self.progress[h],
-            &self.layout,
-            self.budget,
-        ) {
+        match need(&self.harts[h], &self.progress[h], &self.layout, self.budget) {
             Need::Ask(access, _) => {
                 let told = act(&mut self.lines, hart, &access);
                 give(

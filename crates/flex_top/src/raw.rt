@@ -18,11 +18,7 @@ pub(crate) fn is_elf(file: &[u8]) -> bool
 }
 
 // RAM at the start, in one bank: the file, and then zeros.
-pub(crate) fn load(
-    alloc: Global,
-    file: Vec<u8>,
-    settings: &Settings,
-) -> Result<Lines, AllocError>
+pub(crate) fn load(alloc: Global, file: Vec<u8>, settings: &Settings) -> Result<Lines, AllocError>
     requires lawful { is_lawful settings.now ≡ true }
     requires fits { length file.items ≤ settings.now.ram }
     ensures { IfOk result (λ lines. Keeps (setup_of file.items settings.now.harts settings.now.ram settings.now.budget) [] lines) }

@@ -68,6 +68,34 @@ ram 836e82e96c7a713328e991a48d8ce3cc828032db51923773332412317edbeba4
 done
 ";
 
+// Of the three names of the order the second, 31, has no hart.
+const OF_TWO: &str = "solo img out --harts=2 --ram=1 --budget=1 --order=1v0";
+
+const TRACE_OF_TWO: &str = "trace 1 harts 2 ram 1 budget 1
+0 1 p fetch 0000000080000000 00700293
+1 0 p fetch 0000000080000000 00700293
+2 0 p end alu 0000000080000000 0000000080000004 x5 0000000000000007
+3 1 p end alu 0000000080000000 0000000080000004 x5 0000000000000007
+4 0 p to k
+5 0 k retire
+6 1 p to k
+7 1 k retire
+stop budget
+hart 0 ends 1 mode m pc 0000000080000004
+hart 0 x5 0000000000000007
+hart 0 csr 300 0000000a00000000
+hart 0 csr b00 0000000000000001
+hart 0 csr b02 0000000000000001
+hart 1 ends 1 mode m pc 0000000080000004
+hart 1 x5 0000000000000007
+hart 1 x10 0000000000000001
+hart 1 csr 300 0000000a00000000
+hart 1 csr b00 0000000000000001
+hart 1 csr b02 0000000000000001
+ram 6738a083eaf81f79df5201d2dbefd9bcd382520c8f8182e9bb6f6a27fdd584e3
+done
+";
+
 // The words of a line, parted by one space each.
 pub(crate) fn words_of(alloc: Global, line: &str) -> Result<Vec<String>, AllocError> {
     let mut words = Vec::new(alloc);
@@ -99,6 +127,14 @@ fn writes_the_trace_of_the_run(rt: HostRuntime) -> Result<(), Fail> {
     assert_eq!(rt; status, Status::Ended);
     assert_eq!(rt; outer.written("out"), Some(TRACE.as_bytes()));
     assert_eq!(rt; outer.said(), b"".as_slice());
+    Ok(())
+}
+
+#[test]
+fn takes_the_harts_in_the_order(rt: HostRuntime) -> Result<(), Fail> {
+    let (status, outer) = run(rt.alloc(), &IMAGE[..4], OF_TWO, &[])?;
+    assert_eq!(rt; status, Status::Ended);
+    assert_eq!(rt; outer.written("out"), Some(TRACE_OF_TWO.as_bytes()));
     Ok(())
 }
 
@@ -155,6 +191,10 @@ fn answers_by_the_words(rt: HostRuntime) -> Result<(), AllocError> {
         ("solo img out --ram=1 --budget=262145", Status::Usage),
         ("solo img out --budget=3 --ram=1", Status::Ended),
         ("solo img out --ram=1 --ram=1", Status::Usage),
+        (
+            "solo img out --harts=32 --ram=1 --budget=3 --order=v0v1",
+            Status::Ended,
+        ),
         ("", Status::Usage),
     ] {
         assert_words(&rt, rt.alloc(), line, status)?;

@@ -268,7 +268,7 @@ mod tests {
                     assert_eq!(rt; command.image, "img", "image of {line}");
                     assert_eq!(rt; command.trace, "out", "trace of {line}");
                     assert_eq!(rt; command.harts, harts, "harts of {line}");
-                    assert_eq!(rt; command.ram, ram * 1_048_576, "ram of {line}");
+                    assert_eq!(rt; command.ram / 1_048_576, ram, "ram of {line}");
                     assert_eq!(rt; command.budget, budget, "budget of {line}");
                     assert!(rt; command.order == order.as_bytes(), "order of {line}");
                 }

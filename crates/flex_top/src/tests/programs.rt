@@ -82,7 +82,10 @@ const BY_PETERSON: [u32; 21] = [
 // The words for a run of two harts in the order of this number: they take turns of that many events, and from number 6 on
 // of pseudorandom lengths.
 fn line_of(alloc: Global, number: u64) -> Result<String, AllocError> {
-    let mut line = String::from_str(alloc, "solo img out --harts=2 --ram=1 --budget=600 --order=")?;
+    let mut line = String::from_str(
+        alloc,
+        "solo img out --harts=2 --ram=1 --budget=600 --order=",
+    )?;
     let mut state = number;
     for i in 0..3000 {
         state = (1_103_515_245 * state + 12_345) % 2_147_483_648;
@@ -99,10 +102,22 @@ fn line_of(alloc: Global, number: u64) -> Result<String, AllocError> {
 #[test]
 fn loses_no_update(rt: HostRuntime) -> Result<(), Fail> {
     for (words, last) in [
-        (BY_AMO.as_slice(), " amo add 0000000080000200 4 0000000000000001 0000000000000009\n"),
-        (BY_RESERVATION.as_slice(), " sc 0000000080000200 4 000000000000000a 0\n"),
-        (UNDER_A_SPINLOCK.as_slice(), " write 0000000080000200 4 000000000000000a\n"),
-        (BY_PETERSON.as_slice(), " write 0000000080000200 4 000000000000000a\n"),
+        (
+            BY_AMO.as_slice(),
+            " amo add 0000000080000200 4 0000000000000001 0000000000000009\n",
+        ),
+        (
+            BY_RESERVATION.as_slice(),
+            " sc 0000000080000200 4 000000000000000a 0\n",
+        ),
+        (
+            UNDER_A_SPINLOCK.as_slice(),
+            " write 0000000080000200 4 000000000000000a\n",
+        ),
+        (
+            BY_PETERSON.as_slice(),
+            " write 0000000080000200 4 000000000000000a\n",
+        ),
     ] {
         let image = image_of(rt.alloc(), words)?;
         for number in 1..=10 {
@@ -113,7 +128,13 @@ fn loses_no_update(rt: HostRuntime) -> Result<(), Fail> {
 }
 
 // That the run in the order of this number comes to this event.
-fn assert_last(rt: &impl Abort, alloc: Global, image: &[u8], number: u64, last: &str) -> Result<(), AllocError> {
+fn assert_last(
+    rt: &impl Abort,
+    alloc: Global,
+    image: &[u8],
+    number: u64,
+    last: &str,
+) -> Result<(), AllocError> {
     let line = line_of(alloc, number)?;
     let (status, outer) = run(alloc, image, &line, &[])?;
     assert_eq!(rt; status, Status::Ended);

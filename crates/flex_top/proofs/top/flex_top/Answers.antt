@@ -33,9 +33,9 @@ returns-in-Ok-clause-complete g c = λ r file reads holds expects calm quiet.
     let Holds : Reading → Type 0 = λ x. IsSomeAnd (g.O.Outer.held c.args.outer.now) (λ files. files x.image ≡ Some file) in
     let bytes : c.in-Ok.file.items ≡ file = taken_is (g.O.Outer.held c.args.outer.now) command.image.now 268435456 c.in-Ok.file.items file c.in-Ok.ensures.taken (subst Holds (sym same) holds) in
     let answer : answer_of_file c.in-Ok.file.items (shown command).harts (shown command).ram (shown command).budget (shown command).order ≡ status.Ended =
-        ap (λ xs. answer_of_file xs (shown command).harts (shown command).ram (shown command).budget (shown command).order) bytes
-        ∙ ap (λ (x : Reading). answer_of_file file x.harts x.ram x.budget x.order) same
-        ∙ expected_within file r.harts r.ram r.budget r.order expects in
+    ap (λ xs. answer_of_file xs (shown command).harts (shown command).ram (shown command).budget (shown command).order) bytes
+    ∙ ap (λ (x : Reading). answer_of_file file x.harts x.ram x.budget x.order) same
+    ∙ expected_within file r.harts r.ram r.budget r.order expects in
     let Is : Status → Type 0 = λ s. IsAnswer s c.solo.result in
     let Quiet : ℕ → Type 0 = λ n. IsCalm n (g.O.Outer.write_faults c.solo.new.outer) in
     let wrote = calm_unfailed _ _ _ c.solo.ensures.cause (subst Quiet (sym c.in-Ok.ensures.write_faults) quiet) in

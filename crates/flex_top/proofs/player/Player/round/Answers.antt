@@ -36,10 +36,10 @@ loop-h-preserved c =
           let After : Option ℕ → Type 0 = λ pc. AfterTurn setup (reach setup playing.names) h pc c.turn.new.self in
           playing_turn setup order c.loop-h.self c.turn.new.self h later playing below (subst After c.in-None.is (c.in_ok-turn.ensures.after setup (reach setup playing.names) playing.at));
       before = λ n k made earlier. elim (cases_eq k h) [
-      | inl same ↦
-          let Made : ℕ → Type 0 = λ j. HasMade (n + 1) c.turn.new.self j in
-          subst Made (sym same) (counts n (c.loop-h.invariant.after n h made (omega arith) within))
-      | inr apart ↦ made_other (n + 1) h k c.loop-h.self c.turn.new.self c.in_ok-turn.ensures.others apart (c.loop-h.invariant.before n k made (omega (arith, earlier, apart)))
+        | inl same ↦
+            let Made : ℕ → Type 0 = λ j. HasMade (n + 1) c.turn.new.self j in
+            subst Made (sym same) (counts n (c.loop-h.invariant.after n h made (omega arith) within))
+        | inr apart ↦ made_other (n + 1) h k c.loop-h.self c.turn.new.self c.in_ok-turn.ensures.others apart (c.loop-h.invariant.before n k made (omega (arith, earlier, apart)))
       ];
       after = λ n k made later below. made_other n h k c.loop-h.self c.turn.new.self c.in_ok-turn.ensures.others (λ same. omega (arith, same, later)) (c.loop-h.invariant.after n k made (omega (arith, later)) below);
     }
