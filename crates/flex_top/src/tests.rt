@@ -1,7 +1,11 @@
 mod programs;
 
+ghost use Rattle.std.specs.Prelude.{◌≡◌, ℕ, List, map, Some, IsSomeAnd, string_bytes};
+ghost use Rattle.flex_top.specs.Words.{Reading, reading};
+ghost use Rattle.flex_top.specs.Answer.{expected, IsEnded};
+
 use super::*;
-use flex_base::{MemoryOuter, Text};
+use flex_base::{MemoryOuter, Outer, SteadyOuter, Text};
 use std::alloc::{AllocError, Global};
 use std::process::Abort;
 use std::test::Fail;
@@ -119,6 +123,31 @@ fn run(
     let mut outer = MemoryOuter::new(alloc, files, failing);
     let status = flex_top(alloc, &words, &mut outer);
     Ok((status, outer))
+}
+
+// What the words come to over an outside that never fails: a run that is to end ends, or memory runs out.
+fn run_steadily(alloc: Global, words: &[String], outer: &mut SteadyOuter) -> Status
+    ensures { (r : Reading) (file : List ℕ) → reading (map string_bytes words.now) ≡ Some r → IsSomeAnd (⟦<SteadyOuter as Outer>⟧.held outer.old) (λ files. files r.image ≡ Some file)
+        → expected file r.harts r.ram r.budget r.order ≡ Status.Ended → IsEnded result }
+{
+    flex_top(alloc, words, outer)
+}
+
+#[test]
+fn ends_over_a_steady_outside(rt: HostRuntime) -> Result<(), AllocError> {
+    let alloc = rt.alloc();
+    let mut files = Vec::new(alloc);
+    files.push((Text::of(alloc, b"img")?, Vec::from_slice(alloc, &IMAGE)?))?;
+    let mut outer = SteadyOuter::new(alloc, files);
+    let words = words_of(alloc, "solo img out --harts=2 --ram=1")?;
+    assert_eq!(rt; run_steadily(alloc, &words, &mut outer), Status::Ended);
+    // A name that it wasn't given is an empty file, whose first word isn't an instruction.
+    let words = words_of(alloc, "solo other out --ram=1")?;
+    assert_eq!(rt;
+        run_steadily(alloc, &words, &mut outer),
+        Status::Unbuilt(Some(0x8000_0000))
+    );
+    Ok(())
 }
 
 #[test]

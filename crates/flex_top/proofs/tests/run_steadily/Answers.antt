@@ -1,0 +1,6 @@
+-- Both counts are 0, and stay so.
+use Rattle.std.proofs.Common.{refl, arith}
+use Rattle.flex_top.proofs.tests.run_steadily.Goals as goal
+
+pub returns : goal.returns
+returns c = λ r file reads holds expects. c.flex_top.ensures.complete r file reads holds expects (refl, omega arith) (refl, omega arith)
