@@ -1,7 +1,7 @@
 -- Where no fault comes from the outside, a run of which all is built ends, or finds no memory.
-use Rattle.std.proofs.Common.{◌≡◌, ℕ, ◌⊎◌, ◌<◌, Bool, true, false, if◌then◌else◌, nat_lt, List, length, inl, inr, refl, ap, sym, ◌∙◌, arith}
+use Rattle.std.proofs.Common.{◌≡◌, ℕ, ◌<◌, Bool, true, false, if◌then◌else◌, nat_lt, List, length, inl, inr, refl, arith}
 use Rattle.std.proofs.lemmas.Bool.Decides.{nat_tests}
-use Rattle.flex_base.specs.Files.{HasRisen, Counts}
+use Rattle.flex_base.specs.Files.{Counts}
 use Rattle.flex_top.specs.Answer.{expected, answer_of_file, image_limit, IsAnswer, IsCalm, IsEnded}
 use Rattle.flex_top.specs.declared.status.Status.{Status}
 use Rattle.flex_top.specs.declared.status.Status.TheVariants as status

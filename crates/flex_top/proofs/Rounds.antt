@@ -3,10 +3,10 @@ use Rattle.std.proofs.Common.{◌≡◌, ◌≢◌, ℕ, ◌+◌, ◌-◌, ◌*�
 use Rattle.std.specs.Prelude.{IfOk}
 use Rattle.std.specs.List.{range_with_len}
 use Rattle.std.proofs.Math.Nat.{mul-le-mul_right}
-use Rattle.std.proofs.lemmas.Bool.{cases_eq, cases_Bool}
+use Rattle.std.proofs.lemmas.Bool.{cases_Bool}
 use Rattle.flex_base.specs.Setup.{Setup}
-use Rattle.flex_base.specs.Story.{IsOver, want}
-use Rattle.flex_base.specs.Unsplit.{Machine, half_at, want_of, step, reach, reach_from, begin, hart_numbers, is_spent, has_ended}
+use Rattle.flex_base.specs.Story.{want}
+use Rattle.flex_base.specs.Unsplit.{Machine, half_at, step, reach, reach_from, begin, hart_numbers, has_ended}
 use Rattle.flex_base.specs.Rounds.{turn_of, turns, repeated, most_rounds, rounds, played}
 use Rattle.flex_base.specs.Built.{unbuilt_at, first_of, first_unbuilt}
 use Rattle.flex_base.proofs.Machines.{reach-cons, reach-none, reach-append, reach_push}
@@ -15,7 +15,7 @@ use Rattle.hart_story.specs.Progressing.{node, is_retired, left}
 use Rattle.hart_story.specs.declared.hart.Hart.{Hart}
 use Rattle.hart_story.specs.declared.progress.Progress.{Progress}
 use Rattle.hart_story.specs.declared.progress.Progress.TheVariants as progress
-use Rattle.flex_top.specs.Play.{ends_of, progress_at, IsHart, IsAt, IsStepped, Accesses, Finishes, IsDone, IsStuck, IsTurned, AfterTurn, KeepsOthers, HasMade, AllMade, TurnCounts, Playing, IsReached, HasPlayed}
+use Rattle.flex_top.specs.Play.{ends_of, progress_at, IsAt, IsStepped, Accesses, Finishes, IsDone, IsStuck, IsTurned, AfterTurn, KeepsOthers, HasMade, AllMade, TurnCounts, Playing, IsReached, HasPlayed}
 use Rattle.flex_top.specs.declared.player.Player.{Player}
 
 -- Turns.

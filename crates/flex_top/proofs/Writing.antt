@@ -1,13 +1,12 @@
 -- The text that is written is the trace of the run that was played.
-use Rattle.std.proofs.Common.{◌≡◌, ℕ, ◌+◌, ◌<◌, List, [], map, length, slice_index_or, Some, refl, ap, sym, subst, ◌∙◌, arith}
+use Rattle.std.proofs.Common.{◌≡◌, ℕ, ◌+◌, List, [], map, Some, refl, ap, sym, subst, ◌∙◌, arith}
 use Rattle.std.specs.List.{range_with_len}
-use Rattle.std.proofs.lemmas.List.FromFn.{get_or-map-range_with_len}
 use Rattle.flex_base.specs.Place.{ram_base}
 use Rattle.flex_base.specs.Setup.{Setup}
 use Rattle.flex_base.specs.FlatMemory.{byte}
-use Rattle.flex_base.specs.State.{State, start}
+use Rattle.flex_base.specs.State.{State}
 use Rattle.flex_base.specs.Classes.{default_plan}
-use Rattle.flex_base.specs.Unsplit.{Half, half_of, half_at, begin, hart_numbers, stop_of, reach, unsplit, has_ended}
+use Rattle.flex_base.specs.Unsplit.{half_at, stop_of, reach, has_ended}
 use Rattle.flex_base.specs.Rounds.{played}
 use Rattle.flex_base.specs.Split.{Parted, Plan, parted, unparted}
 use Rattle.flex_base.specs.Journal.{console, order_of}
@@ -19,7 +18,7 @@ use Rattle.flex_base.proofs.Turns.{stop_ended}
 use Rattle.flex_base.proofs.Quiet.{console_built}
 use Rattle.hart_story.specs.declared.hart.Hart.{Hart}
 use Rattle.flex_top.specs.Answer.{journal_of, trace_of, IsWhole}
-use Rattle.flex_top.specs.Play.{IsAt, HasPlayed}
+use Rattle.flex_top.specs.Play.{HasPlayed}
 use Rattle.flex_top.specs.TailText.{whole_text}
 use Rattle.flex_top.specs.Trace.{settings_of, ram_bytes}
 use Rattle.flex_top.specs.Written.{AllStand}

@@ -1,5 +1,5 @@
 -- The accesses of RAM that one bank of all RAM stands for.
-use Rattle.std.specs.Prelude.{◌≡◌, ℕ, if◌then◌else◌, List}
+use Rattle.std.specs.Prelude.{ℕ, if◌then◌else◌, List}
 use Rattle.flex_base.specs.Setup.{Setup}
 use Rattle.flex_base.specs.FlatMemory.{Done, is_ram_access}
 use Rattle.flex_base.specs.Unsplit.{noted}

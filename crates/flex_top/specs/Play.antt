@@ -3,7 +3,7 @@ use Rattle.std.specs.Prelude.{◌≡◌, ◌≢◌, ℕ, ◌+◌, ◌<◌, ◌�
 use Rattle.flex_base.specs.Setup.{Setup}
 use Rattle.flex_base.specs.State.{start}
 use Rattle.flex_base.specs.Classes.{default_plan}
-use Rattle.flex_base.specs.Unsplit.{Machine, half_at, begin, step, reach, reach_from, hart_numbers, is_spent, has_ended}
+use Rattle.flex_base.specs.Unsplit.{Machine, half_at, begin, step, reach, reach_from, is_spent, has_ended}
 use Rattle.flex_base.specs.Rounds.{turn_of, turns, played}
 use Rattle.flex_base.specs.Built.{unbuilt_at, first_unbuilt}
 use Rattle.flex_base.specs.Split.{parted, unparted}

@@ -79,7 +79,7 @@ const BY_PETERSON: [u32; 21] = [
     0x0082a023, 0x00060023, 0xfff38393, 0xfc039ae3, 0x0000006f,
 ];
 
-// The words for a run of two harts in the order of this number: they take turns of that many events, and from number 6 on
+// The words for a run of two harts in the order of this number: they take turns of one event more than that, and from number 5 on
 // of pseudorandom lengths.
 fn line_of(alloc: Global, number: u64) -> Result<String, AllocError> {
     let mut line = String::from_str(
@@ -88,9 +88,9 @@ fn line_of(alloc: Global, number: u64) -> Result<String, AllocError> {
     )?;
     let mut state = number;
     for i in 0..3000 {
-        state = (1_103_515_245 * state + 12_345) % 2_147_483_648;
-        let second = if number <= 5 {
-            i / number % 2 == 1
+        state = state.wrapping_mul(1_103_515_245).wrapping_add(12_345) % 2_147_483_648;
+        let second = if number < 5 {
+            i / (number + 1) % 2 == 1
         } else {
             state / 65_536 % 2 == 1
         };
@@ -120,7 +120,7 @@ fn loses_no_update(rt: HostRuntime) -> Result<(), Fail> {
         ),
     ] {
         let image = image_of(rt.alloc(), words)?;
-        for number in 1..=10 {
+        for number in 0..10 {
             assert_last(&rt, rt.alloc(), &image, number, last)?;
         }
     }

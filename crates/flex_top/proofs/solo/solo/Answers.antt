@@ -1,8 +1,7 @@
 -- The answer is that of the run, where the file can be taken.
-use Rattle.std.proofs.Common.{◌≡◌, ℕ, ◌≤◌, Bool, true, false, if◌then◌else◌, nat_lt, List, map, length, refl, ap, sym, subst, ◌∙◌, arith}
+use Rattle.std.proofs.Common.{◌≡◌, ℕ, ◌≤◌, false, if◌then◌else◌, nat_lt, List, map, length, ap, sym, subst, ◌∙◌, arith}
 use Rattle.std.specs.Prelude.{None}
 use Rattle.std.proofs.lemmas.Bool.Decides.{nat_tests}
-use Rattle.flex_base.specs.Setup.{Setup}
 use Rattle.flex_base.specs.Unsplit.{begin}
 use Rattle.flex_top.specs.Answer.{is_elf, setup_of, answer_of_setup, answer_of_file, IsAnswer}
 use Rattle.flex_top.specs.Words.{hart_of}

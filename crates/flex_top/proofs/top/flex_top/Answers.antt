@@ -1,5 +1,5 @@
 -- The run is that of the words and the file.
-use Rattle.std.proofs.Common.{◌≡◌, ℕ, List, map, Option, None, Some, Ok, Err, refl, ap, sym, subst, ◌∙◌}
+use Rattle.std.proofs.Common.{◌≡◌, ℕ, List, Option, None, Some, Ok, ap, sym, subst, ◌∙◌}
 use Rattle.std.specs.Prelude.{IsSomeAnd}
 use Rattle.flex_base.specs.Files.{Files, Taken}
 use Rattle.flex_top.specs.Answer.{setup_of, answer_of_file, IsAnswer, IsCalm, IsWhole}

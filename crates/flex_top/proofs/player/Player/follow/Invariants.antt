@@ -1,5 +1,5 @@
 -- The characters so far are followed.
-use Rattle.std.proofs.Common.{ℕ, map, take}
+use Rattle.std.proofs.Common.{map, take}
 use Rattle.flex_base.specs.Setup.{Setup}
 use Rattle.flex_base.specs.Unsplit.{begin}
 use Rattle.flex_top.specs.Words.{hart_of}

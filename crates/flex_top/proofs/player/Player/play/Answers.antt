@@ -1,5 +1,5 @@
 -- After the order the rounds, until each hart has retired.
-use Rattle.std.proofs.Common.{◌≡◌, ℕ, ◌+◌, ◌-◌, ◌<◌, Option, map, subst, sym, ◌∙◌, arith}
+use Rattle.std.proofs.Common.{ℕ, ◌+◌, ◌-◌, ◌<◌, Option, map, subst, arith}
 use Rattle.flex_base.specs.Unsplit.{begin, reach, hart_numbers}
 use Rattle.flex_base.specs.Rounds.{repeated, most_rounds}
 use Rattle.flex_top.specs.Words.{hart_of}

@@ -1,7 +1,7 @@
 -- Each round makes one more end of each hart.
-use Rattle.std.proofs.Common.{ℕ, ◌-◌, map}
+use Rattle.std.proofs.Common.{◌-◌, map}
 use Rattle.flex_base.specs.Setup.{Setup}
-use Rattle.flex_base.specs.Unsplit.{Machine, begin, hart_numbers}
+use Rattle.flex_base.specs.Unsplit.{begin, hart_numbers}
 use Rattle.flex_base.specs.Rounds.{repeated, most_rounds}
 use Rattle.flex_top.specs.Words.{hart_of}
 use Rattle.flex_top.specs.Play.{IsAt, Playing, AllMade}

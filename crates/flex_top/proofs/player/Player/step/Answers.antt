@@ -1,6 +1,5 @@
 -- What is told is what the machine's hart wants; the player follows it.
-use Rattle.std.proofs.Common.{◌≡◌, ℕ, ◌+◌, ◌≤◌, ◌++◌, ◌∷◌, [], Some, true, refl, ap, sym, subst, ◌∙◌, ◌<◌, length, arith, get_or, get_or-set_same}
-use Rattle.flex_base.specs.Setup.{Setup}
+use Rattle.std.proofs.Common.{◌≡◌, ◌+◌, ◌≤◌, ◌++◌, ◌∷◌, [], Some, refl, ap, sym, subst, ◌∙◌, ◌<◌, length, arith, get_or-set_same}
 use Rattle.flex_base.specs.Unsplit.{Machine, half_at, want_of, reply_to, does}
 use Rattle.flex_base.specs.Story.{want}
 use Rattle.flex_base.specs.Built.{is_built}
@@ -9,7 +8,7 @@ use Rattle.flex_base.specs.Split.{part}
 use Rattle.flex_base.specs.declared.access.Reply.{Reply}
 use Rattle.flex_base.specs.declared.event.What.TheVariants as what
 use Rattle.flex_base.proofs.Turns.{turn_of-asks, turn_of-ends, turn_of-over, turn_of-begins}
-use Rattle.hart_story.specs.Progressing.{IsIn, IsSoundProgress, IsAsking, node, is_retired}
+use Rattle.hart_story.specs.Progressing.{IsIn, IsSoundProgress, IsAsking, node}
 use Rattle.hart_story.specs.declared.hart.Hart.{Hart}
 use Rattle.hart_story.specs.declared.progress.Progress.{Progress}
 use Rattle.hart_story.proofs.Asking.{ends_unretired}
@@ -17,7 +16,7 @@ use Rattle.hart_story.proofs.Told.{told_asks, told_ends, told_unbuilt}
 use Rattle.flex_top.specs.Memory.{Keeps, replayed}
 use Rattle.flex_top.specs.Play.{IsAt, ends_of, progress_at}
 use Rattle.flex_top.specs.Splitting.{parted_by}
-use Rattle.flex_top.proofs.Playing.{hart_read, far_read, in_hart, at_access, at_end, step_over, built_here, unbuilt_here, unbuilt_busy}
+use Rattle.flex_top.proofs.Playing.{hart_read, in_hart, at_access, at_end, step_over, built_here, unbuilt_here, unbuilt_busy}
 use Rattle.flex_top.proofs.player.Player.step.Goals as goal
 
 pub act-told-requires-clause-built : goal.act-told-requires-clause-built
