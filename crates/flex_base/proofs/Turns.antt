@@ -106,7 +106,7 @@ some_number p a (suc n) h from below e = elim (below_suc a n h from below) [
 pub ended_all : (setup : Setup) (u : Machine) → ((h : ℕ) → h < setup.harts → is_spent u.devices h ≡ true) → ((h : ℕ) → h < setup.harts → want_of setup u h ≡ IsOver) → has_ended setup u ≡ true
 ended_all setup u spent over =
     ap (λ b. is_some (if b then Some stop.Budget else None) && list_all (λ h. is_over (want_of setup u h)) (hart_numbers setup))
-        (all_numbers (is_spent u.devices) 0 setup.harts (λ h from below. spent h (omega (arith, below))))
+    (all_numbers (is_spent u.devices) 0 setup.harts (λ h from below. spent h (omega (arith, below))))
     ∙ all_numbers (λ h. is_over (want_of setup u h)) 0 setup.harts (λ h from below. ap is_over (over h (omega (arith, below))))
 
 -- one in which some hart isn't over hasn't

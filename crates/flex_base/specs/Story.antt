@@ -119,8 +119,8 @@ concludes a rd result = computes (record a { reservation = None }) class.Atomic 
 abbrev pub stores_conditional : Setup → State → ℕ → ℕ → ℕ → ℕ → Story
 stores_conditional setup a width rd address value = reaches_ram setup a address width 6 7
     (if is_reserved a.reservation (granule address)
-        then Says (acc.Sc address width (low (8 * width) value)) (λ reply. concludes a rd reply.value)
-        else concludes a rd 1)
+    then Says (acc.Sc address width (low (8 * width) value)) (λ reply. concludes a rd reply.value)
+    else concludes a rd 1)
 
 -- an atomic memory operation; the register gets what stood in memory (Volume I, "Atomic Memory Operations")
 abbrev pub modifies : Setup → State → AmoOp → ℕ → ℕ → ℕ → ℕ → Story
