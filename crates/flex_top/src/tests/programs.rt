@@ -57,6 +57,47 @@ fn reaches_both_ends_of_ram(rt: HostRuntime) -> Result<(), Fail> {
     Ok(())
 }
 
+// Atomic instructions, multiplications and divisions on the word at 80000100 and the 8 bytes at 80000140: AMOMAX.W and
+// AMOMAXU.W of 1 where all bits are set; LR at either place, so that neither SC after them makes an access; LR.D, an SC.W
+// in its 8 bytes, and an SC.D after that; MUL of -1 by itself, DIVU of all bits by 1, and REM of -1 by 0.
+const ATOMICS: [u32; 20] = [
+    0x00000297, 0x10028293, 0x04028593, 0xfff00313, 0x00100393, 0x0062a023, 0xa072a42f, 0x0002a483,
+    0x0062a023, 0xe072a62f, 0x1002a6af, 0x1005b72f, 0x1872a7af, 0x1875b82f, 0x1002b8af, 0x1872a92f,
+    0x1872b9af, 0x02630a33, 0x02735ab3, 0x02036b33,
+];
+
+#[test]
+fn makes_atomic_instructions(rt: HostRuntime) -> Result<(), Fail> {
+    let image = image_of(rt.alloc(), &ATOMICS)?;
+    let line = "solo img out --ram=1 --budget=20";
+    let (status, outer) = run(rt.alloc(), &image, line, &[])?;
+    assert_eq!(rt; status, Status::Ended);
+    let text = str::from_utf8(outer.written("out").unwrap_or(b"")).unwrap_or("");
+    for want in [
+        " p amo max 0000000080000100 4 0000000000000001 00000000ffffffff\n",
+        " p end atomic 0000000080000018 000000008000001c x8 ffffffffffffffff\n",
+        " p end load 000000008000001c 0000000080000020 x9 0000000000000001\n",
+        " p amo maxu 0000000080000100 4 0000000000000001 00000000ffffffff\n",
+        " p lr 0000000080000100 4 00000000ffffffff\n",
+        " p end atomic 0000000080000028 000000008000002c x13 ffffffffffffffff\n",
+        " p lr 0000000080000140 8 0000000000000000\n",
+        " p end atomic 0000000080000030 0000000080000034 x15 0000000000000001\n",
+        " p end atomic 0000000080000034 0000000080000038 x16 0000000000000001\n",
+        " p lr 0000000080000100 8 00000000ffffffff\n",
+        " p sc 0000000080000100 4 0000000000000001 0\n",
+        " p end atomic 000000008000003c 0000000080000040 x18 0000000000000000\n",
+        " p end atomic 0000000080000040 0000000080000044 x19 0000000000000001\n",
+        " p end muldiv 0000000080000044 0000000080000048 x20 0000000000000001\n",
+        " p end muldiv 0000000080000048 000000008000004c x21 ffffffffffffffff\n",
+        " p end muldiv 000000008000004c 0000000080000050 x22 ffffffffffffffff\n",
+    ] {
+        assert!(rt; text.contains(want), "no {want}");
+    }
+    // Of the four store-conditionals one makes an access.
+    assert_eq!(rt; text.split(" sc ").count(), 2);
+    Ok(())
+}
+
 // Each adds 1 to the word at 80000200 five times, and then jumps to itself: by one atomic operation, by a load-reserved and
 // a store-conditional, under a lock that an atomic swap takes, and under Peterson's algorithm by plain loads and stores.
 const BY_AMO: [u32; 8] = [
