@@ -98,6 +98,48 @@ fn makes_atomic_instructions(rt: HostRuntime) -> Result<(), Fail> {
     Ok(())
 }
 
+// All nine operations of -2 or 3 on the word at 80000200, from 0 on, and on the 8 bytes at 80000208; each place is then read.
+const OPERATIONS: [u32; 25] = [
+    0x00000297, 0x20028293, 0x00828593, 0xffe00313, 0x00300393, 0x0872a42f, 0x0062a42f, 0x2072a42f,
+    0x4072a42f, 0x6062a42f, 0x8062a42f, 0xa072a42f, 0xc062a42f, 0xe062a42f, 0x0002a483, 0x0875b42f,
+    0x0065b42f, 0x2075b42f, 0x4075b42f, 0x6065b42f, 0x8065b42f, 0xa075b42f, 0xc065b42f, 0xe065b42f,
+    0x0005b603,
+];
+
+#[test]
+fn makes_each_atomic_operation(rt: HostRuntime) -> Result<(), Fail> {
+    let image = image_of(rt.alloc(), &OPERATIONS)?;
+    let line = "solo img out --ram=1 --budget=25";
+    let (status, outer) = run(rt.alloc(), &image, line, &[])?;
+    assert_eq!(rt; status, Status::Ended);
+    let text = str::from_utf8(outer.written("out").unwrap_or(b"")).unwrap_or("");
+    for want in [
+        " p amo swap 0000000080000200 4 0000000000000003 0000000000000000\n",
+        " p amo add 0000000080000200 4 00000000fffffffe 0000000000000003\n",
+        " p amo xor 0000000080000200 4 0000000000000003 0000000000000001\n",
+        " p amo or 0000000080000200 4 0000000000000003 0000000000000002\n",
+        " p amo and 0000000080000200 4 00000000fffffffe 0000000000000003\n",
+        " p amo min 0000000080000200 4 00000000fffffffe 0000000000000002\n",
+        " p amo max 0000000080000200 4 0000000000000003 00000000fffffffe\n",
+        " p amo minu 0000000080000200 4 00000000fffffffe 0000000000000003\n",
+        " p amo maxu 0000000080000200 4 00000000fffffffe 0000000000000003\n",
+        " p read 0000000080000200 4 00000000fffffffe\n",
+        " p amo swap 0000000080000208 8 0000000000000003 0000000000000000\n",
+        " p amo add 0000000080000208 8 fffffffffffffffe 0000000000000003\n",
+        " p amo xor 0000000080000208 8 0000000000000003 0000000000000001\n",
+        " p amo or 0000000080000208 8 0000000000000003 0000000000000002\n",
+        " p amo and 0000000080000208 8 fffffffffffffffe 0000000000000003\n",
+        " p amo min 0000000080000208 8 fffffffffffffffe 0000000000000002\n",
+        " p amo max 0000000080000208 8 0000000000000003 fffffffffffffffe\n",
+        " p amo minu 0000000080000208 8 fffffffffffffffe 0000000000000003\n",
+        " p amo maxu 0000000080000208 8 fffffffffffffffe 0000000000000003\n",
+        " p read 0000000080000208 8 fffffffffffffffe\n",
+    ] {
+        assert!(rt; text.contains(want), "no {want}");
+    }
+    Ok(())
+}
+
 // Each adds 1 to the word at 80000200 five times, and then jumps to itself: by one atomic operation, by a load-reserved and
 // a store-conditional, under a lock that an atomic swap takes, and under Peterson's algorithm by plain loads and stores.
 const BY_AMO: [u32; 8] = [
