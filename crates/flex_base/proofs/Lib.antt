@@ -4,3 +4,5 @@ pub mod Machines
 pub mod Orders
 pub mod Turns
 pub mod Quiet
+pub mod Standing
+pub mod Going

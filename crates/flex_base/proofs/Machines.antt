@@ -1,11 +1,12 @@
 -- Single steps of the unsplit machine.
-use Rattle.std.proofs.Common.{◌≡◌, ◌≢◌, ℕ, ◌<◌, true, false, if◌then◌else◌, nat_lt, List, [], ◌∷◌, ◌++◌, length, refl, ap, ◌∙◌, arith, get_or, set, length-set, get_or-set_same, get_or-set_other}
+use Rattle.std.proofs.Common.{◌≡◌, ◌≢◌, ℕ, ◌+◌, ◌<◌, true, false, if◌then◌else◌, nat_lt, List, [], ◌∷◌, ◌++◌, length, refl, ap, ◌∙◌, arith, get_or, set, length-set, get_or-set_same, get_or-set_other}
 use Rattle.std.proofs.lemmas.Bool.Decides.{nat_tests}
+use Rattle.std.proofs.lemmas.List.FromFn.{get_or-map-range_with_len}
 use Rattle.std.proofs.lemmas.List.Sums.{fold_push, fold-append}
 use Rattle.flex_base.specs.Setup.{Setup}
-use Rattle.flex_base.specs.State.{State}
+use Rattle.flex_base.specs.State.{State, start}
 use Rattle.flex_base.specs.Story.{Want, Asks, Ends, IsOver, IsLater, Story, Says, goes, want, story, after_one}
-use Rattle.flex_base.specs.Unsplit.{Machine, Half, half_of, does, half_at, story_of, want_of, reply_to, stepped, make, step, reach_from}
+use Rattle.flex_base.specs.Unsplit.{Machine, Half, half_of, does, begin, half_at, story_of, want_of, reply_to, stepped, make, step, reach_from}
 use Rattle.flex_base.specs.declared.access.Access.{Access}
 use Rattle.flex_base.specs.declared.access.Reply.{Reply}
 use Rattle.flex_base.specs.Journal.{is_handover}
@@ -31,9 +32,23 @@ pub reach-none : (setup : Setup) (u : Machine) → reach_from setup u [] ≡ u
 unfolding reach_from
 reach-none setup u = refl
 
+-- each hart begins at the entry
+pub half_at-begin : (setup : Setup) (h : ℕ) → h < setup.harts → half_at (begin setup) h ≡ half_of (start h setup.image.entry)
+half_at-begin setup h below =
+    let from : 0 + h ≡ h = omega arith in
+    get_or-map-range_with_len (λ k. half_of (start k setup.image.entry)) 0 setup.harts h h (half_of (start h 0)) below from
+
 -- a step by what the hart wants
 pub step_is : (setup : Setup) (u : Machine) (h : ℕ) (w : Want) → h < setup.harts → want_of setup u h ≡ w → step setup u h ≡ make setup u h w
 step_is setup u h w below e = grind (arith, nat_tests, e)
+
+-- a hart that is over stays where it is
+pub step_over : (setup : Setup) (u : Machine) (h : ℕ) → h < setup.harts → want_of setup u h ≡ IsOver → step setup u h ≡ u
+step_over setup u h below over = step_is setup u h IsOver below over
+
+-- a name without a hart makes no event
+pub step_beyond : (setup : Setup) (u : Machine) (h : ℕ) → nat_lt h setup.harts ≡ false → step setup u h ≡ u
+step_beyond setup u h beyond = ap (λ b. if b then make setup u h (want_of setup u h) else u) beyond
 
 -- the half of the hart that stepped
 pub half-set : (u : Machine) (h : ℕ) (half : Half) (harts : List Half) (d : Half) → h < length u.harts → harts ≡ set u.harts h half → get_or harts h d ≡ half

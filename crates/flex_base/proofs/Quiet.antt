@@ -14,6 +14,7 @@ use Rattle.flex_base.specs.declared.access.Reply.{Reply}
 use Rattle.flex_base.specs.declared.event.What.{What}
 use Rattle.flex_base.specs.declared.event.What.TheVariants as what
 use Rattle.flex_base.proofs.Machines.{reach-cons, reach-none}
+use Rattle.flex_base.proofs.Turns.{first_none}
 use Rattle.flex_base.proofs.Orders.{strip-split-unsplit}
 
 sent_push : (made : List Made) (h : ℕ) (happened : What) → byte_of happened ≡ None → sent (made ++ does h happened ∷ []) ≡ sent made
@@ -43,10 +44,6 @@ quiet_by setup u h pc w false built = refl
 
 quiet_step : (setup : Setup) (u : Machine) (h : ℕ) → unbuilt_at setup u h ≡ None → sent (step setup u h).events ≡ sent u.events
 quiet_step setup u h built = quiet_by setup u h (half_at u h).state.pc (want_of setup u h) (nat_lt h setup.harts) built
-
-first_none : (a b : Option ℕ) → first_of a b ≡ None → (a ≡ None) × (b ≡ None)
-first_none None b e = (refl, e)
-first_none (Some pc) b e = absurd cc
 
 pub quiet : (setup : Setup) (u : Machine) (order : List ℕ) → first_unbuilt setup u order ≡ None → sent (reach_from setup u order).events ≡ sent u.events
 quiet setup u [] built = ap (λ (m : Machine). sent m.events) (reach-none setup u)

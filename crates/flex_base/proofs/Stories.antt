@@ -39,7 +39,7 @@ after_pulse setup a reply = if reply.stop then StaysOver else fetches setup (rec
 pub story_spent : (setup : Setup) (a : State) → a.ends ≡ setup.budget → story setup a ≡ retires
 story_spent setup a spent = ap (λ b. if b then retires else pulses setup a) (eq-eqb a.ends setup.budget spent)
 
-story_unspent : (setup : Setup) (a : State) → a.ends ≢ setup.budget → story setup a ≡ pulses setup a
+pub story_unspent : (setup : Setup) (a : State) → a.ends ≢ setup.budget → story setup a ≡ pulses setup a
 story_unspent setup a unspent = ap (λ b. if b then retires else pulses setup a) (ne_eqb a.ends setup.budget unspent)
 
 pub story_due : (setup : Setup) (a : State) → a.ends ≢ setup.budget → a.due ≡ true → story setup a ≡ Says (acc.Pulse (is_tick a)) (after_pulse setup a)

@@ -1,14 +1,15 @@
 -- Turns, rounds and the end of a run.
-use Rattle.std.proofs.Common.{◌≡◌, ℕ, ◌+◌, ◌<◌, ◌≤◌, zero, suc, Bool, true, false, ◌&&◌, if◌then◌else◌, List, [], ◌∷◌, ◌++◌, length, Option, None, Some, ◌⊎◌, inl, inr, refl, ap, sym, ◌∙◌, arith, append_assoc}
+use Rattle.std.proofs.Common.{◌≡◌, ℕ, ◌+◌, ◌<◌, ◌≤◌, zero, suc, Bool, true, false, ◌&&◌, if◌then◌else◌, nat_lt, List, [], ◌∷◌, ◌++◌, length, Option, None, Some, ◌⊎◌, inl, inr, refl, ap, sym, ◌∙◌, arith, append_assoc}
 use Rattle.std.proofs.lemmas.Bool.{cases_eq, cases_Bool}
+use Rattle.std.proofs.lemmas.Bool.Decides.{nat_tests}
 use Rattle.std.specs.Prelude.{is_some}
 use Rattle.std.specs.List.{list_all, range_with_len}
 use Rattle.flex_base.specs.Setup.{Setup}
 use Rattle.flex_base.specs.State.{State}
 use Rattle.flex_base.specs.Story.{Want, Asks, Ends, IsOver, IsLater, Story, Says, Closes, StaysOver, ComesLater, want}
-use Rattle.flex_base.specs.Unsplit.{Machine, story_of, want_of, reply_to, step, reach_from, hart_numbers, is_spent, stop_of, is_over, has_ended}
+use Rattle.flex_base.specs.Unsplit.{Machine, half_at, story_of, want_of, reply_to, step, reach_from, hart_numbers, is_spent, stop_of, is_over, has_ended}
 use Rattle.flex_base.specs.Rounds.{turn, turn_of, turns}
-use Rattle.flex_base.specs.Built.{unbuilt_at, first_of, first_unbuilt}
+use Rattle.flex_base.specs.Built.{is_built, unbuilt_at, first_of, first_unbuilt}
 use Rattle.flex_base.specs.declared.access.Access.{Access}
 use Rattle.flex_base.specs.declared.access.Reply.{Reply}
 use Rattle.flex_base.specs.declared.event.EndPart.{EndPart}
@@ -69,9 +70,34 @@ turn_of-begins setup u h busy = turn_begins setup u h (story_of setup u h) busy
 
 -- Orders and what isn't built.
 
+-- whether a hart's next event is built
+unbuilt_within : (setup : Setup) (u : Machine) (h : ℕ) → h < setup.harts → unbuilt_at setup u h ≡ (if is_built (want_of setup u h) then None else Some (half_at u h).state.pc)
+unbuilt_within setup u h below = grind (arith, nat_tests)
+
+pub built_here : (setup : Setup) (u : Machine) (h : ℕ) → h < setup.harts → is_built (want_of setup u h) ≡ true → unbuilt_at setup u h ≡ None
+built_here setup u h below built = unbuilt_within setup u h below ∙ ap (λ b. if b then None else Some (half_at u h).state.pc) built
+
+pub unbuilt_here : (setup : Setup) (u : Machine) (h : ℕ) → h < setup.harts → is_built (want_of setup u h) ≡ false → unbuilt_at setup u h ≡ Some (half_at u h).state.pc
+unbuilt_here setup u h below unbuilt = unbuilt_within setup u h below ∙ ap (λ b. if b then None else Some (half_at u h).state.pc) unbuilt
+
+-- a name without a hart makes no event, and so none that isn't built
+pub built_beyond : (setup : Setup) (u : Machine) (h : ℕ) → nat_lt h setup.harts ≡ false → unbuilt_at setup u h ≡ None
+built_beyond setup u h beyond = ap (λ b. if b then (if is_built (want_of setup u h) then None else Some (half_at u h).state.pc) else None) beyond
+
+-- a hart whose next event isn't built isn't over
+pub unbuilt_busy : (w : Want) → is_built w ≡ false → is_over w ≡ false
+unbuilt_busy (Asks access) e = refl
+unbuilt_busy (Ends made after) e = refl
+unbuilt_busy IsOver e = absurd cc
+unbuilt_busy IsLater e = refl
+
 first_of_assoc : (a b c : Option ℕ) → first_of a (first_of b c) ≡ first_of (first_of a b) c
 first_of_assoc None b c = refl
 first_of_assoc (Some pc) b c = refl
+
+pub first_none : (a b : Option ℕ) → first_of a b ≡ None → (a ≡ None) × (b ≡ None)
+first_none None b e = (refl, e)
+first_none (Some pc) b e = absurd cc
 
 pub first_unbuilt-append : (setup : Setup) (u : Machine) (xs ys : List ℕ) → first_unbuilt setup u (xs ++ ys) ≡ first_of (first_unbuilt setup u xs) (first_unbuilt setup (reach_from setup u xs) ys)
 first_unbuilt-append setup u [] ys = ap (λ m. first_unbuilt setup m ys) (sym (reach-none setup u))
@@ -95,7 +121,7 @@ and_none : (a : Bool) → (a && false) ≡ false
 and_none true = refl
 and_none false = refl
 
-some_number : (p : ℕ → Bool) (a n h : ℕ) → a ≤ h → h < a + n → p h ≡ false → list_all p (range_with_len a n) ≡ false
+pub some_number : (p : ℕ → Bool) (a n h : ℕ) → a ≤ h → h < a + n → p h ≡ false → list_all p (range_with_len a n) ≡ false
 some_number p a zero h from below e = absurd (omega (arith, from, below))
 some_number p a (suc n) h from below e = elim (below_suc a n h from below) [
   | inl same ↦ ap (λ k. p k && list_all p (range_with_len (a + 1) n)) (sym same) ∙ ap (λ b. b && list_all p (range_with_len (a + 1) n)) e
@@ -115,7 +141,7 @@ ended_not setup u h below busy =
     ap (λ b. is_some (stop_of setup u) && b) (some_number (λ k. is_over (want_of setup u k)) 0 setup.harts h (omega arith) (omega (arith, below)) busy)
     ∙ and_none (is_some (stop_of setup u))
 
-over_by : (w : Want) → is_over w ≡ true → w ≡ IsOver
+pub over_by : (w : Want) → is_over w ≡ true → w ≡ IsOver
 over_by (Asks access) e = absurd cc
 over_by (Ends part after) e = absurd cc
 over_by IsOver e = refl

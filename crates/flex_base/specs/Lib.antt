@@ -16,5 +16,6 @@ pub mod FlatMemory
 pub mod Unsplit
 pub mod Rounds
 pub mod Built
+pub mod Going
 pub mod Split
 pub mod Journal

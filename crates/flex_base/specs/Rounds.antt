@@ -23,9 +23,13 @@ unfoldable pub repeated : ℕ → List ℕ → List ℕ
 repeated zero names = []
 repeated (suc n) names = names ++ repeated n names
 
--- a hart makes at most 10 events an instruction and a retirement, and each round of a run that goes on has an event
+-- a hart makes at most 10 events an instruction, and a retirement
+abbrev pub most_events : Setup → ℕ
+most_events setup = 10 * setup.budget + 1
+
+-- each round of a run that goes on has an event
 abbrev pub most_rounds : Setup → ℕ
-most_rounds setup = setup.harts * (10 * setup.budget + 1)
+most_rounds setup = setup.harts * most_events setup
 
 abbrev pub rounds : Setup → Machine → List ℕ
 rounds setup u = turns setup u (repeated (most_rounds setup) (hart_numbers setup))

@@ -231,32 +231,3 @@ at_end setup u player next h made after hart far below at ends there_in begun sa
       run = parted_push default_plan setup.harts u.events (does h (what.End made)) ∙ ap (λ p. part default_plan p (does h (what.End made))) at.run ∙ sym run;
       memory = let Keeping : Bank → Type 0 = λ bank. Keeps setup u.ram bank in subst Keeping (sym lines) at.memory;
     })
-
--- a hart that is over stays where it is
-pub step_over : (setup : Setup) (u : Machine) (h : ℕ) → h < setup.harts → want_of setup u h ≡ IsOver → step setup u h ≡ u
-step_over setup u h below over = step_is setup u h IsOver below over
-
--- What is built.
-
-unbuilt_within : (setup : Setup) (u : Machine) (h : ℕ) → h < setup.harts → unbuilt_at setup u h ≡ (if is_built (want_of setup u h) then None else Some (half_at u h).state.pc)
-unbuilt_within setup u h below = grind (arith, nat_tests)
-
-pub built_here : (setup : Setup) (u : Machine) (h : ℕ) → h < setup.harts → is_built (want_of setup u h) ≡ true → unbuilt_at setup u h ≡ None
-built_here setup u h below built = unbuilt_within setup u h below ∙ ap (λ b. if b then None else Some (half_at u h).state.pc) built
-
-pub unbuilt_here : (setup : Setup) (u : Machine) (h : ℕ) → h < setup.harts → is_built (want_of setup u h) ≡ false → unbuilt_at setup u h ≡ Some (half_at u h).state.pc
-unbuilt_here setup u h below unbuilt = unbuilt_within setup u h below ∙ ap (λ b. if b then None else Some (half_at u h).state.pc) unbuilt
-
--- a name without a hart makes no event, and so none that isn't built
-pub step_beyond : (setup : Setup) (u : Machine) (h : ℕ) → nat_lt h setup.harts ≡ false → step setup u h ≡ u
-step_beyond setup u h beyond = ap (λ b. if b then make setup u h (want_of setup u h) else u) beyond
-
-pub built_beyond : (setup : Setup) (u : Machine) (h : ℕ) → nat_lt h setup.harts ≡ false → unbuilt_at setup u h ≡ None
-built_beyond setup u h beyond = ap (λ b. if b then (if is_built (want_of setup u h) then None else Some (half_at u h).state.pc) else None) beyond
-
--- a hart whose next event isn't built isn't over
-pub unbuilt_busy : (w : Want) → is_built w ≡ false → is_over w ≡ false
-unbuilt_busy (Asks access) e = refl
-unbuilt_busy (Ends made after) e = refl
-unbuilt_busy IsOver e = absurd cc
-unbuilt_busy IsLater e = refl

@@ -2,7 +2,7 @@
 use Rattle.std.proofs.Common.{◌≡◌, ℕ, ◌+◌, ◌<◌, ◌≤◌, true, List, [], length, get_or, refl, ap, sym, subst, ◌∙◌, arith}
 use Rattle.std.proofs.lemmas.Bool.Decides.{nat_tests}
 use Rattle.std.proofs.lemmas.List.{length-replicate}
-use Rattle.std.proofs.lemmas.List.FromFn.{get_or-map-range_with_len, length-map-range_with_len}
+use Rattle.std.proofs.lemmas.List.FromFn.{length-map-range_with_len}
 use Rattle.flex_base.specs.Place.{ram_base}
 use Rattle.flex_base.specs.Limits.{is_lawful, mebibyte}
 use Rattle.flex_base.specs.Word.{is_multiple}
@@ -18,17 +18,12 @@ use Rattle.hart_story.specs.Progressing.{IsIn, IsSoundProgress, node, is_retired
 use Rattle.hart_story.specs.declared.hart.Hart.{Hart}
 use Rattle.hart_story.specs.declared.progress.Progress.{Progress}
 use Rattle.mem_lines.specs.Bank.{Bank}
+use Rattle.flex_base.proofs.Machines.{half_at-begin}
 use Rattle.flex_top.specs.Answer.{setup_of}
 use Rattle.flex_top.specs.Memory.{Keeps}
 use Rattle.flex_top.specs.Play.{IsHart, IsAt, IsStarted, progress_at}
 use Rattle.flex_top.specs.declared.player.Player.{Player}
 use Rattle.flex_top.proofs.Writing.{parted_none}
-
--- each hart of the machine begins at the entry
-half_at-begin : (setup : Setup) (h : ℕ) → h < setup.harts → half_at (begin setup) h ≡ half_of (start h setup.image.entry)
-half_at-begin setup h below =
-    let from : 0 + h ≡ h = omega arith in
-    get_or-map-range_with_len (λ k. half_of (start k setup.image.entry)) 0 setup.harts h h (half_of (start h 0)) below from
 
 lawful_some : (settings : Settings) → is_lawful settings ≡ true → 0 < settings.harts
 lawful_some settings lawful = grind (arith, nat_tests)

@@ -1,5 +1,7 @@
 ghost use Rattle.std.specs.Prelude.{◌≡◌, ◌≢◌, ◌↔◌, List, ℕ, map, Some, None, IfSome, IsSomeAnd, string_bytes};
 ghost use Rattle.flex_base.specs.Files.{Counts, ChangesFile, ChangesText, Said};
+ghost use Rattle.flex_base.specs.Setup.{Setup};
+ghost use Rattle.flex_base.specs.Going.{GoesOn};
 ghost use Rattle.flex_base.specs.Journal.{console};
 ghost use Rattle.flex_top.specs.Words.{Reading, reading};
 ghost use Rattle.flex_top.specs.Answer.{setup_of, expected, IsCalm, IsEnded, Answers, IsWhole, journal_of, trace_of};
@@ -20,6 +22,7 @@ const IMAGE_LIMIT: u64 = 268_435_456;
 /// the given order and then in rounds, and writes the trace of the run under the other name. No other file is touched, and
 /// nothing is said. After an answer other than `Ended` and `WriteFault` nothing is written; after
 /// `WriteFault` the file is as it was, or the beginning of the trace.
+#[tactic(auto, using(flex_base::proofs::Going::run_goes_on))]
 pub fn flex_top<O: Outer>(alloc: Global, words: &[String], outer: &mut O) -> Status
     // When each answer comes: usage and the faults of the outside, and then the others by the image.
     ensures usage { (result ≡ Status.Usage) ↔ (reading (map string_bytes words.now) ≡ None) }
@@ -37,6 +40,8 @@ pub fn flex_top<O: Outer>(alloc: Global, words: &[String], outer: &mut O) -> Sta
         → result ≡ Status.WriteFault → ChangesFile (O.written outer.old) (O.written outer.new) r.trace (BecomesPart (trace_of (setup_of file r.harts r.ram r.budget) r.order)) }
     ensures whole { (r : Reading) (file : List ℕ) → reading (map string_bytes words.now) ≡ Some r → IsSomeAnd (O.held outer.old) (λ files. files r.image ≡ Some file)
         → result ≡ Status.Ended → IsWhole (setup_of file r.harts r.ram r.budget) r.order }
+    // Why every run comes to its end: until then some hart has a next event, and no hart makes more than so many.
+    ensures goes_on { (setup : Setup) (order : List ℕ) → GoesOn setup order }
     ensures nothing { result ≢ Status.Ended → result ≢ Status.WriteFault → O.written outer.new ≡ O.written outer.old }
 
     // What is said: the console bytes of the run, of which there are none so far.
