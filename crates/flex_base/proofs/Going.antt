@@ -165,7 +165,7 @@ round_counts setup u n a (suc m) all stand before after built = λ h below.
     (λ k later within. subst As (others k (λ same. omega (arith, same, later))) (after k (omega (arith, later)) within))
     both.1 h below)
 
-repeated-none : (names : List ℕ) → repeated zero names ≡ []
+pub repeated-none : (names : List ℕ) → repeated zero names ≡ []
 unfolding repeated
 repeated-none names = refl
 

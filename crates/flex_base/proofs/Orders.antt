@@ -132,7 +132,7 @@ range_with_len-suc a (suc n) =
     let e : (a + 1) + n ≡ a + suc n = omega arith in
     ap (λ (ks : List ℕ). a ∷ ks) (range_with_len-suc (a + 1) n ∙ ap (λ (k : ℕ). range_with_len (a + 1) n ++ k ∷ []) e)
 
-range_with_len_push : (n : ℕ) → range_with_len 0 (n + 1) ≡ range_with_len 0 n ++ n ∷ []
+pub range_with_len_push : (n : ℕ) → range_with_len 0 (n + 1) ≡ range_with_len 0 n ++ n ∷ []
 range_with_len_push n =
     let one : n + 1 ≡ suc n = omega arith in
     let start : 0 + n ≡ n = omega arith in

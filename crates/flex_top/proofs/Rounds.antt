@@ -1,21 +1,17 @@
 -- A turn of the player is a turn of the machine, and its turns are the rounds.
-use Rattle.std.proofs.Common.{◌≡◌, ◌≢◌, ℕ, ◌+◌, ◌-◌, ◌*◌, ◌<◌, ◌≤◌, suc, true, false, List, [], ◌∷◌, ◌++◌, length, get_or, None, Some, Option, Result, Ok, Err, inl, inr, refl, ap, sym, subst, ◌∙◌, arith, append_assoc, append-nil}
+use Rattle.std.proofs.Common.{◌≡◌, ℕ, ◌+◌, ◌-◌, ◌<◌, ◌≤◌, zero, suc, true, List, [], ◌∷◌, ◌++◌, length, None, Some, Option, Result, Ok, Err, refl, ap, sym, subst, ◌∙◌, arith, append_assoc, append-nil}
 use Rattle.std.specs.Prelude.{IfOk}
 use Rattle.std.specs.List.{range_with_len}
-use Rattle.std.proofs.Math.Nat.{mul-le-mul_right}
-use Rattle.std.proofs.lemmas.Bool.{cases_Bool}
 use Rattle.flex_base.specs.Setup.{Setup}
-use Rattle.flex_base.specs.Story.{want}
-use Rattle.flex_base.specs.Unsplit.{Machine, half_at, step, reach, reach_from, begin, hart_numbers, has_ended}
+use Rattle.flex_base.specs.Unsplit.{Machine, step, reach, reach_from, begin, hart_numbers, has_ended}
 use Rattle.flex_base.specs.Rounds.{turn_of, turns, repeated, most_rounds, rounds, played}
 use Rattle.flex_base.specs.Built.{unbuilt_at, first_of, first_unbuilt}
 use Rattle.flex_base.proofs.Machines.{reach-cons, reach-none, reach-append, reach_push}
-use Rattle.flex_base.proofs.Turns.{first_unbuilt-append, turns_ended, turns-cons, ended_all}
-use Rattle.hart_story.specs.Progressing.{node, is_retired, left}
+use Rattle.flex_base.proofs.Turns.{first_none, first_unbuilt-append, turns_ended, turns-cons, turns-append}
+use Rattle.flex_base.proofs.Standing.{all_stand}
+use Rattle.flex_base.proofs.Going.{repeated-none, repeated-suc, below_most, rounds_end}
 use Rattle.hart_story.specs.declared.hart.Hart.{Hart}
-use Rattle.hart_story.specs.declared.progress.Progress.{Progress}
-use Rattle.hart_story.specs.declared.progress.Progress.TheVariants as progress
-use Rattle.flex_top.specs.Play.{ends_of, progress_at, IsAt, IsStepped, Accesses, Finishes, IsDone, IsStuck, IsTurned, AfterTurn, KeepsOthers, HasMade, AllMade, TurnCounts, Playing, IsReached, HasPlayed}
+use Rattle.flex_top.specs.Play.{IsAt, IsStepped, Accesses, Finishes, IsDone, IsStuck, IsTurned, AfterTurn, with_turns, Playing, IsReached, HasPlayed}
 use Rattle.flex_top.specs.declared.player.Player.{Player}
 
 -- Turns.
@@ -61,39 +57,6 @@ turned_stuck setup u h pc stuck =
     ap (first_unbuilt setup u) stuck.names
     ∙ ap (λ o. first_of o (first_unbuilt setup (step setup u h) stuck.rest)) stuck.unbuilt
 
--- Counts.
-
-pub others_on : (h : ℕ) (a b c : Player) → KeepsOthers h a b → KeepsOthers h b c → KeepsOthers h a c
-others_on h a b c first second = record {
-  size = second.size ∙ first.size;
-  harts = λ k other apart. second.harts k other apart ∙ first.harts k other apart;
-  progress = λ k apart. second.progress k apart ∙ first.progress k apart;
-}
-
--- a hart that is nearer to its end now hadn't retired
-retired_before : (far next : Progress) → left next < left far → is_retired far ≡ false
-retired_before progress.Retired next nearer = absurd (omega (arith, nearer))
-retired_before other next nearer = refl
-
--- after an access a hart has made as many ends
-made_on : (n h : ℕ) (a b : Player) → b.harts.items ≡ a.harts.items → left (progress_at b h) < left (progress_at a h) → HasMade n a h → HasMade n b h
-made_on n h a b same nearer made = λ other busy.
-    let Least : List Hart → Type 0 = λ xs. n ≤ ends_of (get_or xs h other) in
-    subst Least (sym same) (made other (retired_before (progress_at a h) (progress_at b h) nearer))
-
-pub counts_on : (h : ℕ) (pc : Option ℕ) (a b c : Player) → b.harts.items ≡ a.harts.items → left (progress_at b h) < left (progress_at a h) → TurnCounts h pc b c → TurnCounts h pc a c
-counts_on h None a b c same nearer counts = λ n made. counts n (made_on n h a b same nearer made)
-counts_on h (Some pc) a b c same nearer counts = tt
-
-pub made_over : (n h : ℕ) (player : Player) → is_retired (progress_at player h) ≡ true → HasMade n player h
-made_over n h player retired = λ other busy. absurd cc
-
--- the others have made as many ends as before
-pub made_other : (n h k : ℕ) (a b : Player) → KeepsOthers h a b → k ≢ h → HasMade n a k → HasMade n b k
-made_other n h k a b kept apart made = λ other busy.
-    let Least : Hart → Type 0 = λ x. n ≤ ends_of x in
-    subst Least (sym (kept.harts k other apart)) (made other (ap is_retired (sym (kept.progress k apart)) ∙ busy))
-
 -- The order.
 
 pub reached_none : (setup : Setup) (player : Player) → IsAt setup (begin setup) player → IsReached setup [] player
@@ -123,61 +86,74 @@ reached_stuck setup names rest h pc player reached stuck =
 
 -- Rounds.
 
-abbrev pub after_turn : Setup → ℕ → List ℕ → List ℕ
-after_turn setup h names = names ++ turn_of setup (reach setup names) h
+-- where the turns of these harts lead
+reach_turns : (setup : Setup) (order done : List ℕ) → reach_from setup (reach setup order) (turns setup (reach setup order) done) ≡ reach setup (with_turns setup order done)
+reach_turns setup order done = sym (reach-append setup (begin setup) order (turns setup (reach setup order) done))
 
-reach_turn : (setup : Setup) (h : ℕ) (names : List ℕ) → reach_from setup (reach setup names) (turn_of setup (reach setup names) h) ≡ reach setup (after_turn setup h names)
-reach_turn setup h names = sym (reach-append setup (begin setup) names (turn_of setup (reach setup names) h))
+turns_more : (setup : Setup) (order done rest : List ℕ) → with_turns setup order (done ++ rest) ≡ with_turns setup order done ++ turns setup (reach setup (with_turns setup order done)) rest
+turns_more setup order done rest =
+    let u = reach setup order in
+    ap (λ ns. order ++ ns) (turns-append setup u done rest)
+    ∙ sym (append_assoc order (turns setup u done) (turns setup (reach_from setup u (turns setup u done)) rest))
+    ∙ ap (λ m. with_turns setup order done ++ turns setup m rest) (reach_turns setup order done)
 
-order_more : (setup : Setup) (order : List ℕ) (player : Player) (h : ℕ) (rest : List ℕ) → (playing : Playing setup order player (h ∷ rest)) → h < setup.harts
-    → played setup order ≡ after_turn setup h playing.names ++ turns setup (reach setup (after_turn setup h playing.names)) rest
-order_more setup order player h rest playing below =
-    let u = reach setup playing.names in
-    playing.order_is
-    ∙ ap (λ ns. playing.names ++ ns) (turns-cons setup u h rest below)
-    ∙ sym (append_assoc playing.names (turn_of setup u h) (turns setup (reach_from setup u (turn_of setup u h)) rest))
-    ∙ ap (λ m. after_turn setup h playing.names ++ turns setup m rest) (reach_turn setup h playing.names)
+-- the turn of one more hart
+turns_push : (setup : Setup) (order done : List ℕ) (h : ℕ) → h < setup.harts → with_turns setup order (done ++ h ∷ []) ≡ with_turns setup order done ++ turn_of setup (reach setup (with_turns setup order done)) h
+turns_push setup order done h below =
+    let u = reach setup (with_turns setup order done) in
+    turns_more setup order done (h ∷ [])
+    ∙ ap (λ ns. with_turns setup order done ++ ns) (turns-cons setup u h [] below ∙ append-nil (turn_of setup u h))
 
-built_more : (setup : Setup) (h : ℕ) (names : List ℕ) → first_unbuilt setup (begin setup) names ≡ None
-    → first_unbuilt setup (begin setup) (after_turn setup h names) ≡ first_unbuilt setup (reach setup names) (turn_of setup (reach setup names) h)
-built_more setup h names built =
-    first_unbuilt-append setup (begin setup) names (turn_of setup (reach setup names) h)
-    ∙ ap (λ o. first_of o (first_unbuilt setup (reach setup names) (turn_of setup (reach setup names) h))) built
+built_more : (setup : Setup) (names more : List ℕ) → first_unbuilt setup (begin setup) names ≡ None → first_unbuilt setup (begin setup) (names ++ more) ≡ first_unbuilt setup (reach setup names) more
+built_more setup names more built =
+    first_unbuilt-append setup (begin setup) names more
+    ∙ ap (λ o. first_of o (first_unbuilt setup (reach setup names) more)) built
 
-pub playing_turn : (setup : Setup) (order : List ℕ) (player next : Player) (h : ℕ) (rest : List ℕ) → (playing : Playing setup order player (h ∷ rest)) → h < setup.harts
-    → IsTurned setup (reach setup playing.names) h next → Playing setup order next rest
-playing_turn setup order player next h rest playing below turned =
+pub playing_turn : (setup : Setup) (order done rest : List ℕ) (h : ℕ) (player next : Player) → Playing setup order done (h ∷ rest) player → h < setup.harts
+    → IsTurned setup (reach setup (with_turns setup order done)) h next → Playing setup order (done ++ h ∷ []) rest next
+playing_turn setup order done rest h player next playing below turned =
+    let names = with_turns setup order done in
+    let turn = turn_of setup (reach setup names) h in
+    let more = turns_push setup order done h below in
     let At : Machine → Type 0 = λ m. IsAt setup m next in
     record {
-      names = after_turn setup h playing.names;
-      at = subst At (reach_turn setup h playing.names) turned.at;
-      order_is = order_more setup order player h rest playing below;
-      built = built_more setup h playing.names playing.built ∙ turned.built;
+      all = append_assoc done (h ∷ []) rest ∙ playing.all;
+      at = subst At (sym (reach-append setup (begin setup) names turn) ∙ ap (reach setup) (sym more)) turned.at;
+      built = ap (first_unbuilt setup (begin setup)) more ∙ built_more setup names turn playing.built ∙ turned.built;
     }
 
-pub playing_stuck : (setup : Setup) (order : List ℕ) (player : Player) (h pc : ℕ) (rest : List ℕ) → (playing : Playing setup order player (h ∷ rest)) → h < setup.harts
-    → first_unbuilt setup (reach setup playing.names) (turn_of setup (reach setup playing.names) h) ≡ Some pc → first_unbuilt setup (begin setup) (played setup order) ≡ Some pc
-playing_stuck setup order player h pc rest playing below stuck =
-    let names = after_turn setup h playing.names in
-    let more = turns setup (reach setup names) rest in
-    ap (first_unbuilt setup (begin setup)) (order_more setup order player h rest playing below)
-    ∙ first_unbuilt-append setup (begin setup) names more
-    ∙ ap (λ o. first_of o (first_unbuilt setup (reach setup names) more)) (built_more setup h playing.names playing.built ∙ stuck)
+pub playing_stuck : (setup : Setup) (order done rest : List ℕ) (h pc : ℕ) (player : Player) → Playing setup order done (h ∷ rest) player → h < setup.harts
+    → first_unbuilt setup (reach setup (with_turns setup order done)) (turn_of setup (reach setup (with_turns setup order done)) h) ≡ Some pc → first_unbuilt setup (begin setup) (played setup order) ≡ Some pc
+playing_stuck setup order done rest h pc player playing below stuck =
+    let names = with_turns setup order done in
+    let u = reach setup names in
+    let turn = turn_of setup u h in
+    let later = turns setup (reach_from setup u turn) rest in
+    ap (λ ns. first_unbuilt setup (begin setup) (with_turns setup order ns)) (sym playing.all)
+    ∙ ap (first_unbuilt setup (begin setup)) (turns_more setup order done (h ∷ rest))
+    ∙ built_more setup names (turns setup u (h ∷ rest)) playing.built
+    ∙ ap (first_unbuilt setup u) (turns-cons setup u h rest below)
+    ∙ first_unbuilt-append setup u turn later
+    ∙ ap (λ o. first_of o (first_unbuilt setup (reach_from setup u turn) later)) stuck
 
-pub playing_as : (setup : Setup) (order : List ℕ) (player : Player) (a b : List ℕ) → a ≡ b → Playing setup order player a → Playing setup order player b
-playing_as setup order player a b same playing =
-    let Rest : List ℕ → Type 0 = λ rest. Playing setup order player rest in
-    subst Rest same playing
+pub playing_as : (setup : Setup) (order done made rest left : List ℕ) (player : Player) → done ≡ made → rest ≡ left → Playing setup order done rest player → Playing setup order made left player
+playing_as setup order done made rest left player same others playing =
+    let Done : List ℕ → Type 0 = λ ns. Playing setup order ns rest player in
+    let Rest : List ℕ → Type 0 = λ ns. Playing setup order made ns player in
+    subst Rest others (subst Done same playing)
 
 -- the order is followed, and all rounds are to come
-pub playing_rounds : (setup : Setup) (order : List ℕ) (player : Player) → IsReached setup order player → Playing setup order player (repeated (most_rounds setup - 0) (hart_numbers setup))
+pub playing_rounds : (setup : Setup) (order : List ℕ) (player : Player) → IsReached setup order player → Playing setup order (repeated 0 (hart_numbers setup)) (repeated (most_rounds setup - 0) (hart_numbers setup)) player
 playing_rounds setup order player reached =
-    let all : most_rounds setup ≡ most_rounds setup - 0 = omega arith in
+    let numbers = hart_numbers setup in
+    let all : most_rounds setup - 0 ≡ most_rounds setup = omega arith in
+    let none = repeated-none numbers in
+    let names : order ≡ with_turns setup order (repeated 0 numbers) = sym (ap (with_turns setup order) none ∙ append-nil order) in
+    let At : List ℕ → Type 0 = λ ns. IsAt setup (reach setup ns) player in
     record {
-      names = order;
-      at = reached.at;
-      order_is = ap (λ n. order ++ turns setup (reach setup order) (repeated n (hart_numbers setup))) all;
-      built = reached.built;
+      all = ap (λ ns. ns ++ repeated (most_rounds setup - 0) numbers) none ∙ ap (λ n. repeated n numbers) all;
+      at = subst At names reached.at;
+      built = ap (first_unbuilt setup (begin setup)) (sym names) ∙ reached.built;
     }
 
 pub played_stuck : (setup : Setup) (order : List ℕ) (pc : ℕ) → first_unbuilt setup (begin setup) order ≡ Some pc → first_unbuilt setup (begin setup) (played setup order) ≡ Some pc
@@ -196,19 +172,32 @@ numbers_all h n all =
     let none : n - h ≡ 0 = omega (arith, all) in
     ap (range_with_len h) none
 
-repeated-suc : (n : ℕ) (names : List ℕ) → repeated (suc n) names ≡ names ++ repeated n names
-unfolding repeated
-repeated-suc n names = refl
-
 pub repeated_more : (k n : ℕ) (names : List ℕ) → k < n → repeated (n - k) names ≡ names ++ repeated (n - (k + 1)) names
 repeated_more k n names below =
     let more : n - k ≡ suc (n - (k + 1)) = omega (arith, below) in
     ap (λ m. repeated m names) more ∙ repeated-suc (n - (k + 1)) names
 
-pub below_most : (setup : Setup) (budget k : ℕ) → 0 < setup.harts → setup.budget ≡ budget → k < budget + 1 → k < most_rounds setup
-below_most setup budget k some same below =
-    let one : 1 ≤ setup.harts = omega (arith, some) in
-    let most : 1 * (10 * setup.budget + 1) ≤ setup.harts * (10 * setup.budget + 1) = mul-le-mul_right (10 * setup.budget + 1) one in
+pub repeated_push : (k : ℕ) (names : List ℕ) → repeated k names ++ names ≡ repeated (k + 1) names
+repeated_push zero names = ap (λ ns. ns ++ names) (repeated-none names) ∙ sym (append-nil names) ∙ ap (λ ns. names ++ ns) (sym (repeated-none names)) ∙ sym (repeated-suc 0 names)
+repeated_push (suc k) names =
+    let same : suc (k + 1) ≡ suc k + 1 = omega arith in
+    ap (λ ns. ns ++ names) (repeated-suc k names)
+    ∙ append_assoc names (repeated k names) names
+    ∙ ap (λ ns. names ++ ns) (repeated_push k names)
+    ∙ sym (repeated-suc (k + 1) names)
+    ∙ ap (λ n. repeated n names) same
+
+-- a round more
+pub playing_round : (setup : Setup) (order : List ℕ) (k : ℕ) (player : Player) → k < most_rounds setup
+    → Playing setup order (repeated k (hart_numbers setup)) (repeated (most_rounds setup - k) (hart_numbers setup)) player
+    → Playing setup order (repeated k (hart_numbers setup)) (hart_numbers setup ++ repeated (most_rounds setup - (k + 1)) (hart_numbers setup)) player
+playing_round setup order k player below playing =
+    let numbers = hart_numbers setup in
+    playing_as setup order (repeated k numbers) (repeated k numbers) _ _ player refl (repeated_more k (most_rounds setup) numbers below) playing
+
+pub below_rounds : (setup : Setup) (budget k : ℕ) → 0 < setup.harts → setup.budget ≡ budget → k < budget + 1 → k < most_rounds setup
+below_rounds setup budget k some same below =
+    let most = below_most setup 0 some in
     omega (arith, most, same, below)
 
 -- The end.
@@ -217,44 +206,24 @@ some_hart : (xs : List Hart) → 0 < length xs → Hart
 some_hart [] some = absurd (omega (arith, some))
 some_hart (hart ∷ xs) some = hart
 
-retired_is : (far : Progress) → is_retired far ≡ true → far ≡ progress.Retired
-retired_is progress.Retired e = refl
-retired_is progress.Begun e = absurd cc
-retired_is (progress.Pulsed lines) e = absurd cc
-retired_is (progress.Working lines made) e = absurd cc
-
 -- a hart that stands for a state has the state's budget
 pub budget_is : (setup : Setup) (u : Machine) (player : Player) → IsAt setup u player → setup.budget ≡ player.budget
 budget_is setup u player at =
     let some : 0 < length player.harts.items = omega (arith, at.some, at.harts) in
     (at.each 0 (some_hart player.harts.items some) at.some).in_story.of.budget
 
--- a hart that has made more ends than its budget has retired
-retired_by : (setup : Setup) (u : Machine) (player : Player) (n h : ℕ) → IsAt setup u player → HasMade n player h → player.budget < n → h < setup.harts → is_retired (progress_at player h) ≡ true
-retired_by setup u player n h at made past below =
-    let some : 0 < length player.harts.items = omega (arith, at.some, at.harts) in
-    let other = some_hart player.harts.items some in
-    let hart = at.each h other below in
-    elim (cases_Bool (is_retired (progress_at player h))) [
-      | inl retired ↦ retired
-      | inr busy ↦ let many = made other busy in absurd (omega (arith, many, past, hart.in_story.fit.within, hart.in_story.stands.ends, hart.in_story.of.budget))
-    ]
-
--- a run in which each hart has made more ends than its budget has ended
-pub ended_made : (setup : Setup) (u : Machine) (player : Player) (n : ℕ) → IsAt setup u player → AllMade n player → player.budget < n → has_ended setup u ≡ true
-ended_made setup u player n at made past =
-    let some : 0 < length player.harts.items = omega (arith, at.some, at.harts) in
-    let other = some_hart player.harts.items some in
-    let retired = λ (h : ℕ) (below : h < setup.harts). retired_by setup u player n h at (made h (omega (arith, below, at.harts))) past below in
-    ended_all setup u
-    (λ h below. (at.each h other below).spent ∙ retired h below)
-    (λ h below. ap want ((at.each h other below).in_story.reached ∙ ap (node setup (half_at u h).state) (retired_is (progress_at player h) (retired h below))))
-
-pub played_all : (setup : Setup) (order : List ℕ) (player : Player) (rest : List ℕ) → (playing : Playing setup order player rest) → has_ended setup (reach setup playing.names) ≡ true → HasPlayed setup order player
-played_all setup order player rest playing ended =
-    let order_is : played setup order ≡ playing.names = playing.order_is
-    ∙ ap (λ ns. playing.names ++ ns) (turns_ended setup (reach setup playing.names) rest ended)
-    ∙ append-nil playing.names in
+-- more rounds than the budget are all that there are, since they end the run
+pub played_all : (setup : Setup) (order : List ℕ) (j : ℕ) (rest : List ℕ) (player : Player) → setup.budget < j → Playing setup order (repeated j (hart_numbers setup)) rest player → HasPlayed setup order player
+played_all setup order j rest player past playing =
+    let u = reach setup order in
+    let done = repeated j (hart_numbers setup) in
+    let names = with_turns setup order done in
+    let both = first_none (first_unbuilt setup (begin setup) order) (first_unbuilt setup u (turns setup u done)) (sym (first_unbuilt-append setup (begin setup) order (turns setup u done)) ∙ playing.built) in
+    let ended : has_ended setup (reach setup names) ≡ true = ap (has_ended setup) (sym (reach_turns setup order done)) ∙ rounds_end setup u j (all_stand setup order) (λ h below. past) both.1 in
+    let order_is : played setup order ≡ names = ap (with_turns setup order) (sym playing.all)
+    ∙ turns_more setup order done rest
+    ∙ ap (λ ns. names ++ ns) (turns_ended setup (reach setup names) rest ended)
+    ∙ append-nil names in
     let At : List ℕ → Type 0 = λ ns. IsAt setup (reach setup ns) player in
     record {
       at = subst At (sym order_is) playing.at;

@@ -3,8 +3,8 @@ use Rattle.std.specs.Prelude.{◌≡◌, ◌≢◌, ℕ, ◌+◌, ◌<◌, ◌�
 use Rattle.flex_base.specs.Setup.{Setup}
 use Rattle.flex_base.specs.State.{start}
 use Rattle.flex_base.specs.Classes.{default_plan}
-use Rattle.flex_base.specs.Unsplit.{Machine, half_at, begin, step, reach, reach_from, is_spent, has_ended}
-use Rattle.flex_base.specs.Rounds.{turn_of, turns, played}
+use Rattle.flex_base.specs.Unsplit.{Machine, half_at, begin, step, reach, reach_from, is_spent, hart_numbers, has_ended}
+use Rattle.flex_base.specs.Rounds.{turn_of, turns, repeated, most_rounds, played}
 use Rattle.flex_base.specs.Built.{unbuilt_at, first_unbuilt}
 use Rattle.flex_base.specs.Split.{parted, unparted}
 use Rattle.flex_base.specs.declared.settings.Layout.{Layout}
@@ -19,10 +19,6 @@ use Rattle.flex_top.specs.Splitting.{parted_by}
 use Rattle.flex_top.specs.declared.player.Player.{Player}
 use Rattle.flex_top.specs.declared.player.Step.{Step}
 use Rattle.flex_top.specs.declared.player.Step.TheVariants as step_of
-
--- how many instructions and traps of a hart have ended
-abbrev pub ends_of : Hart → ℕ
-ends_of hart = hart.regs.ends
 
 -- how far the hart of this number is in its instruction
 abbrev pub progress_at : Player → ℕ → Progress
@@ -88,47 +84,25 @@ abbrev pub AfterTurn : Setup → Machine → ℕ → Option ℕ → Player → T
 AfterTurn setup u h None player = IsTurned setup u h player
 AfterTurn setup u h (Some pc) player = first_unbuilt setup u (turn_of setup u h) ≡ Some pc
 
--- the other harts stay as they were
-pub record KeepsOthers (h : ℕ) (old new : Player) : Type 0 where
-  pub size : length new.harts.items ≡ length old.harts.items
-  pub harts : (k : ℕ) (other : Hart) → k ≢ h → slice_index_or new.harts.items k other ≡ slice_index_or old.harts.items k other
-  pub progress : (k : ℕ) → k ≢ h → progress_at new k ≡ progress_at old k
+-- an access brings the end of the instruction nearer
+abbrev pub IsNearer : ℕ → Step → Player → Player → Type 0
+IsNearer h step_of.Accessed old new = left (progress_at new h) < left (progress_at old h)
+IsNearer h other old new = Unit {0}
 
--- the hart of this number has made so many ends, or has retired
-abbrev pub HasMade : ℕ → Player → ℕ → Type 0
-HasMade n player h = (other : Hart) → is_retired (progress_at player h) ≡ false → n ≤ ends_of (slice_index_or player.harts.items h other)
+-- the order and then the turns of these harts
+abbrev pub with_turns : Setup → List ℕ → List ℕ → List ℕ
+with_turns setup order done = order ++ turns setup (reach setup order) done
 
-abbrev pub AllMade : ℕ → Player → Type 0
-AllMade n player = (h : ℕ) → h < length player.harts.items → HasMade n player h
-
--- a step brings the end of its instruction nearer, or counts it, and only a hart that has retired has none
-abbrev pub StepCounts : ℕ → Step → Player → Player → Type 0
-StepCounts h step_of.Accessed old new = (new.harts.items ≡ old.harts.items) × (left (progress_at new h) < left (progress_at old h))
-StepCounts h step_of.Ended old new = (n : ℕ) → HasMade n old h → HasMade (n + 1) new h
-StepCounts h step_of.Over old new = is_retired (progress_at new h) ≡ true
-StepCounts h (step_of.Unbuilt pc) old new = Unit {0}
-
--- a turn counts one end
-abbrev pub TurnCounts : ℕ → Option ℕ → Player → Player → Type 0
-TurnCounts h None old new = (n : ℕ) → HasMade n old h → HasMade (n + 1) new h
-TurnCounts h (Some pc) old new = Unit {0}
-
--- so much of the order is played, all of it is built, and the turns of these harts are the rest
-pub record Playing (setup : Setup) (order : List ℕ) (player : Player) (rest : List ℕ) : Type 0 where
-  pub names : List ℕ
-  pub at : IsAt setup (reach setup names) player
-  pub order_is : played setup order ≡ names ++ turns setup (reach setup names) rest
-  pub built : first_unbuilt setup (begin setup) names ≡ None
+-- of the rounds that follow the order, the turns of some harts are made and those of the rest are to come; what is made is built
+pub record Playing (setup : Setup) (order done rest : List ℕ) (player : Player) : Type 0 where
+  pub all : done ++ rest ≡ repeated (most_rounds setup) (hart_numbers setup)
+  pub at : IsAt setup (reach setup (with_turns setup order done)) player
+  pub built : first_unbuilt setup (begin setup) (with_turns setup order done) ≡ None
 
 -- a round is played, or stopped at the pc of the first event that isn't built
-abbrev pub AfterRound : Setup → List ℕ → List ℕ → Option ℕ → Player → Type 0
-AfterRound setup order rest None player = Playing setup order player rest
-AfterRound setup order rest (Some pc) player = first_unbuilt setup (begin setup) (played setup order) ≡ Some pc
-
--- a round counts one end of each hart
-abbrev pub RoundCounts : Option ℕ → Player → Player → Type 0
-RoundCounts None old new = (length new.harts.items ≡ length old.harts.items) × ((n : ℕ) → AllMade n old → AllMade (n + 1) new)
-RoundCounts (Some pc) old new = Unit {0}
+abbrev pub AfterRound : Setup → List ℕ → List ℕ → List ℕ → Option ℕ → Player → Type 0
+AfterRound setup order done rest None player = Playing setup order done rest player
+AfterRound setup order done rest (Some pc) player = first_unbuilt setup (begin setup) (played setup order) ≡ Some pc
 
 -- the named hart's next event was made, or isn't built
 abbrev pub AfterName : Setup → Machine → ℕ → Option ℕ → Player → Type 0

@@ -39,7 +39,7 @@ pub(crate) enum Step {
 }
 
 impl Player {
-    ghost use Rattle.flex_top.specs.Play.{IsAt, IsStarted, AfterStep, AfterTurn, AfterRound, AfterName, AfterOrder, KeepsOthers, StepCounts, TurnCounts, RoundCounts, Playing, Played};
+    ghost use Rattle.flex_top.specs.Play.{IsAt, IsStarted, AfterStep, AfterTurn, AfterRound, AfterName, AfterOrder, IsNearer, Playing, Played};
 
     // The harts at their start, at this entry, over this RAM.
     pub(crate) fn start(
@@ -70,8 +70,7 @@ impl Player {
         requires hart { h < length self.old.harts.items }
         requires at { (setup : Setup) × (u : Machine) × IsAt setup u self.old }
         ensures after { IfOk result (λ came. (setup : Setup) (u : Machine) → IsAt setup u self.old → AfterStep setup u h came self.new) }
-        ensures others { IfOk result (λ came. KeepsOthers h self.old self.new) }
-        ensures counts { IfOk result (λ came. StepCounts h came self.old self.new) }
+        ensures nearer { IfOk result (λ came. IsNearer h came self.old self.new) }
     {
         let hart = HartId(h as u8);
         match need(&self.harts[h], &self.progress[h], &self.layout, self.budget) {
@@ -108,9 +107,7 @@ impl Player {
     pub(crate) fn turn(&mut self, h: usize) -> Result<Option<u64>, AllocError>
         requires hart { h < length self.old.harts.items }
         requires at { (setup : Setup) × (u : Machine) × IsAt setup u self.old }
-        ensures after { IfOk result (λ pc. (setup : Setup) (u : Machine) → IsAt setup u self.old → AfterTurn setup u h pc self.new) }
-        ensures others { IfOk result (λ pc. KeepsOthers h self.old self.new) }
-        ensures counts { IfOk result (λ pc. TurnCounts h pc self.old self.new) }
+        ensures { IfOk result (λ pc. (setup : Setup) (u : Machine) → IsAt setup u self.old → AfterTurn setup u h pc self.new) }
     {
         match self.step(h)? {
             Step::Accessed => self.turn(h),
@@ -122,9 +119,8 @@ impl Player {
 
     // Each hart makes its turn, in rising order.
     fn round(&mut self) -> Result<Option<u64>, AllocError>
-        requires at { (setup : Setup) × (u : Machine) × IsAt setup u self.old }
-        ensures after { IfOk result (λ pc. (setup : Setup) (order rest : List ℕ) → Playing setup order self.old (hart_numbers setup ++ rest) → AfterRound setup order rest pc self.new) }
-        ensures counts { IfOk result (λ pc. RoundCounts pc self.old self.new) }
+        requires { (setup : Setup) × (order : List ℕ) × (done : List ℕ) × (rest : List ℕ) × Playing setup order done (hart_numbers setup ++ rest) self.old }
+        ensures { IfOk result (λ pc. (setup : Setup) (order done rest : List ℕ) → Playing setup order done (hart_numbers setup ++ rest) self.old → AfterRound setup order (done ++ hart_numbers setup) rest pc self.new) }
     {
         for h in 0..self.harts.len() {
             match self.turn(h)? {

@@ -6,7 +6,8 @@ use Rattle.flex_base.specs.Unsplit.{Machine}
 use Rattle.flex_top.specs.Words.{hart_of}
 use Rattle.flex_top.specs.Play.{IsAt, IsStepped, AfterStep}
 use Rattle.flex_top.specs.declared.player.Step.{Step}
-use Rattle.flex_top.proofs.Playing.{step_beyond, built_beyond}
+use Rattle.flex_base.proofs.Machines.{step_beyond}
+use Rattle.flex_base.proofs.Turns.{built_beyond}
 use Rattle.flex_top.proofs.player.Player.name.Goals as goal
 
 not_below : (h harts : ℕ) → harts ≤ h → nat_lt h harts ≡ false

@@ -1,51 +1,53 @@
 -- One more hart has its turn.
-use Rattle.std.proofs.Common.{ℕ, ◌+◌, ◌-◌, ◌<◌, ◌∷◌, ◌++◌, Option, length, inl, inr, subst, sym, ap, ◌∙◌, arith}
+use Rattle.std.proofs.Common.{◌≡◌, ℕ, ◌+◌, ◌-◌, ◌<◌, [], ◌∷◌, ◌++◌, Option, refl, subst, sym, ap, ◌∙◌, arith, append_assoc, append-nil}
 use Rattle.std.specs.List.{range_with_len}
-use Rattle.std.proofs.lemmas.Bool.{cases_eq}
-use Rattle.flex_base.specs.Unsplit.{reach}
-use Rattle.flex_top.specs.Play.{AfterTurn, TurnCounts, HasMade}
-use Rattle.flex_top.proofs.Rounds.{playing_turn, playing_stuck, playing_as, numbers_more, made_other}
+use Rattle.flex_base.specs.Unsplit.{reach, hart_numbers}
+use Rattle.flex_base.proofs.Orders.{range_with_len_push}
+use Rattle.flex_top.specs.Play.{AfterTurn, with_turns}
+use Rattle.flex_top.proofs.Rounds.{playing_turn, playing_stuck, playing_as, numbers_more, numbers_all}
 use Rattle.flex_top.proofs.player.Player.round.Goals as goal
 
-pub returns-in-Some-clause-after : goal.returns-in-Some-clause-after
-returns-in-Some-clause-after c = λ setup order rest at_first.
+pub loop-h-init : goal.loop-h-init
+loop-h-init c = λ setup order done rest at_first.
+    let all : setup.harts ≡ setup.harts - 0 = omega arith in
+    (omega arith, playing_as setup order done (done ++ []) (hart_numbers setup ++ rest) (range_with_len 0 (setup.harts - 0) ++ rest) c.args.self.now
+    (sym (append-nil done)) (ap (λ n. range_with_len 0 n ++ rest) all) at_first)
+
+pub returns-in-Some : goal.returns-in-Some
+returns-in-Some c = λ setup order done rest at_first.
     let h = c.loop-h.h in
+    let so_far = done ++ range_with_len 0 h in
+    let was = (c.loop-h.invariant setup order done rest at_first).1 in
     let below : h < setup.harts = omega (arith, c.loop-h-test.true, c.len-h-end.ensures, at_first.at.harts) in
     let later = range_with_len (h + 1) (setup.harts - (h + 1)) ++ rest in
-    let playing = playing_as setup order c.loop-h.self (range_with_len h (setup.harts - h) ++ rest) (h ∷ later) (ap (λ ns. ns ++ rest) (numbers_more h setup.harts below)) (c.loop-h.invariant.playing setup order rest at_first) in
-    let After : Option ℕ → Type 0 = λ pc. AfterTurn setup (reach setup playing.names) h pc c.turn.new.self in
-    let stuck = subst After c.in-Some.is (c.in_ok-turn.ensures.after setup (reach setup playing.names) playing.at) in
-    playing_stuck setup order c.loop-h.self h c.in-Some.pc later playing below stuck
+    let playing = playing_as setup order so_far so_far (range_with_len h (setup.harts - h) ++ rest) (h ∷ later) c.loop-h.self refl (ap (λ ns. ns ++ rest) (numbers_more h setup.harts below)) was in
+    let After : Option ℕ → Type 0 = λ pc. AfterTurn setup (reach setup (with_turns setup order so_far)) h pc c.turn.new.self in
+    playing_stuck setup order so_far later h c.in-Some.pc c.loop-h.self playing below (subst After c.in-Some.is (c.in_ok-turn.ensures setup (reach setup (with_turns setup order so_far)) playing.at))
+
+pub turn-requires : goal.turn-requires
+turn-requires c =
+    let first = c.requires in
+    let was = (c.loop-h.invariant first.0 first.1 first.2 first.3 first.4).1 in
+    record { hart = omega (arith, c.loop-h-test.true, c.len-h-end.ensures, first.4.at.harts, was.at.harts); at = (first.0, _, was.at) }
 
 pub loop-h-preserved : goal.loop-h-preserved
-loop-h-preserved c =
+loop-h-preserved c = λ setup order done rest at_first.
     let h = c.loop-h.h in
-    let within : h < length c.args.self.now.harts.items = omega (arith, c.loop-h-test.true, c.len-h-end.ensures) in
-    let Counts : Option ℕ → Type 0 = λ pc. TurnCounts h pc c.loop-h.self c.turn.new.self in
-    let counts = subst Counts c.in-None.is c.in_ok-turn.ensures.counts in
-    let was = c.loop-h.invariant.at in
-    let Then : Option ℕ → Type 0 = λ pc. AfterTurn was.0 was.1 h pc c.turn.new.self in
-    let turned = subst Then c.in-None.is (c.in_ok-turn.ensures.after was.0 was.1 was.2) in
-    record {
-      at = (was.0, _, turned.at);
-      size = c.in_ok-turn.ensures.others.size ∙ c.loop-h.invariant.size;
-      playing = λ setup order rest at_first.
-          let below : h < setup.harts = omega (arith, within, at_first.at.harts) in
-          let later = range_with_len (h + 1) (setup.harts - (h + 1)) ++ rest in
-          let playing = playing_as setup order c.loop-h.self (range_with_len h (setup.harts - h) ++ rest) (h ∷ later) (ap (λ ns. ns ++ rest) (numbers_more h setup.harts below)) (c.loop-h.invariant.playing setup order rest at_first) in
-          let After : Option ℕ → Type 0 = λ pc. AfterTurn setup (reach setup playing.names) h pc c.turn.new.self in
-          playing_turn setup order c.loop-h.self c.turn.new.self h later playing below (subst After c.in-None.is (c.in_ok-turn.ensures.after setup (reach setup playing.names) playing.at));
-      before = λ n k made earlier. elim (cases_eq k h) [
-        | inl same ↦
-            let Made : ℕ → Type 0 = λ j. HasMade (n + 1) c.turn.new.self j in
-            subst Made (sym same) (counts n (c.loop-h.invariant.after n h made (omega arith) within))
-        | inr apart ↦ made_other (n + 1) h k c.loop-h.self c.turn.new.self c.in_ok-turn.ensures.others apart (c.loop-h.invariant.before n k made (omega (arith, earlier, apart)))
-      ];
-      after = λ n k made later below. made_other n h k c.loop-h.self c.turn.new.self c.in_ok-turn.ensures.others (λ same. omega (arith, same, later)) (c.loop-h.invariant.after n k made (omega (arith, later)) below);
-    }
+    let so_far = done ++ range_with_len 0 h in
+    let was = (c.loop-h.invariant setup order done rest at_first).1 in
+    let below : h < setup.harts = omega (arith, c.loop-h-test.true, c.len-h-end.ensures, at_first.at.harts) in
+    let later = range_with_len (h + 1) (setup.harts - (h + 1)) ++ rest in
+    let playing = playing_as setup order so_far so_far (range_with_len h (setup.harts - h) ++ rest) (h ∷ later) c.loop-h.self refl (ap (λ ns. ns ++ rest) (numbers_more h setup.harts below)) was in
+    let After : Option ℕ → Type 0 = λ pc. AfterTurn setup (reach setup (with_turns setup order so_far)) h pc c.turn.new.self in
+    let turned = subst After c.in-None.is (c.in_ok-turn.ensures setup (reach setup (with_turns setup order so_far)) playing.at) in
+    (omega (arith, below), playing_as setup order (so_far ++ h ∷ []) (done ++ range_with_len 0 (h + 1)) later later c.turn.new.self
+    (append_assoc done (range_with_len 0 h) (h ∷ []) ∙ ap (λ ns. done ++ ns) (sym (range_with_len_push h))) refl
+    (playing_turn setup order so_far later h c.loop-h.self c.turn.new.self playing below turned))
 
-pub returns-clause-counts : goal.returns-clause-counts
-returns-clause-counts c = (
-  c.loop-h.invariant.size,
-  λ n made k below. c.loop-h.invariant.before n k made (omega (arith, below, c.loop-h-test.false, c.len-h-end.ensures, c.loop-h.invariant.size)),
-)
+pub returns : goal.returns
+returns c = λ setup order done rest at_first.
+    let h = c.loop-h.h in
+    let was = c.loop-h.invariant setup order done rest at_first in
+    let all : h ≡ setup.harts = omega (arith, c.loop-h-test.false, was.0, c.len-h-end.ensures, at_first.at.harts) in
+    playing_as setup order (done ++ range_with_len 0 h) (done ++ hart_numbers setup) (range_with_len h (setup.harts - h) ++ rest) rest c.loop-h.self
+    (ap (λ n. done ++ range_with_len 0 n) all) (ap (λ ns. ns ++ rest) (numbers_all h setup.harts (omega (arith, all)))) was.1

@@ -7,16 +7,17 @@ use Rattle.flex_base.specs.Classes.{default_plan}
 use Rattle.flex_base.specs.Split.{part}
 use Rattle.flex_base.specs.declared.access.Reply.{Reply}
 use Rattle.flex_base.specs.declared.event.What.TheVariants as what
-use Rattle.flex_base.proofs.Turns.{turn_of-asks, turn_of-ends, turn_of-over, turn_of-begins}
+use Rattle.flex_base.proofs.Machines.{step_over}
+use Rattle.flex_base.proofs.Turns.{turn_of-asks, turn_of-ends, turn_of-over, turn_of-begins, built_here, unbuilt_here, unbuilt_busy}
 use Rattle.hart_story.specs.Progressing.{IsIn, IsSoundProgress, IsAsking, node}
 use Rattle.hart_story.specs.declared.hart.Hart.{Hart}
 use Rattle.hart_story.specs.declared.progress.Progress.{Progress}
 use Rattle.hart_story.proofs.Asking.{ends_unretired}
 use Rattle.hart_story.proofs.Told.{told_asks, told_ends, told_unbuilt}
 use Rattle.flex_top.specs.Memory.{Keeps, replayed}
-use Rattle.flex_top.specs.Play.{IsAt, ends_of, progress_at}
+use Rattle.flex_top.specs.Play.{IsAt, progress_at}
 use Rattle.flex_top.specs.Splitting.{parted_by}
-use Rattle.flex_top.proofs.Playing.{hart_read, in_hart, at_access, at_end, step_over, built_here, unbuilt_here, unbuilt_busy}
+use Rattle.flex_top.proofs.Playing.{hart_read, in_hart, at_access, at_end}
 use Rattle.flex_top.proofs.player.Player.step.Goals as goal
 
 pub act-told-requires-clause-built : goal.act-told-requires-clause-built
@@ -108,26 +109,6 @@ returns-in_ok-add-in-Finish-clause-after c = λ setup u at.
       };
       names = turn_of-ends setup u h ending.part ending.after ending.ends;
     }
-
-pub returns-in_ok-add-in-Finish-clause-counts : goal.returns-in_ok-add-in-Finish-clause-counts
-returns-in_ok-add-in-Finish-clause-counts c = λ n made other busy.
-    let setup = c.requires.at.0 in
-    let u = c.requires.at.1 in
-    let at = c.requires.at.2 in
-    let player = c.args.self.now in
-    let h = c.args.h in
-    let below : h < setup.harts = omega (arith, c.requires.hart, at.harts) in
-    let in_harts : h < length player.harts.items = c.requires.hart in
-    let told = c.in-Finish.ensures.told setup (half_at u h).state (half_at u h).replies (in_hart setup u player h c.index.result.now c.index-2.result.now at below c.index.ensures c.index-2.ensures) in
-    let ending = told_ends c.in-Finish.field-0 (want_of setup u h) told in
-    let before = ends_unretired setup (half_at u h).state (progress_at player h) (half_at u h).replies ending.part ending.after (at.each h c.index.result.now below).in_story.reached ending.ends in
-    let old = c.index_mut-in-Finish.result.now in
-    let Least : Hart → Type 0 = λ x. n ≤ ends_of x in
-    let many : n ≤ ends_of old = subst Least (sym c.index_mut-in-Finish.ensures.value) (made old before) in
-    let counted : ends_of c.finish-part.new.hart ≡ ends_of old + 1 = c.finish-part.ensures.count in
-    let more : n + 1 ≤ ends_of c.finish-part.new.hart = omega (arith, many, counted) in
-    let After : Hart → Type 0 = λ x. n + 1 ≤ ends_of x in
-    subst After (sym (get_or-set_same player.harts.items h c.finish-part.new.hart other in_harts)) more
 
 pub returns-in-Over-clause-after : goal.returns-in-Over-clause-after
 returns-in-Over-clause-after c = λ setup u at.
