@@ -157,11 +157,11 @@ round_counts setup u n a (suc m) all stand before after built = λ h below.
     subst Made (sym (ap (reach_from setup u) names ∙ reach-append setup u first (turns setup v rest)))
     (round_counts setup v n (a + 1) m (omega (arith, all)) (all_from setup u first stand)
     (λ k earlier. elim (cases_eq k a) [
-    | inl same ↦
-        let At : ℕ → Type 0 = λ j. HasMade setup (n + 1) (half_at v j) in
-        subst At (sym same) counted
-    | inr apart ↦ subst One (others k apart) (before k (omega (arith, earlier, apart)))
-  ])
+      | inl same ↦
+          let At : ℕ → Type 0 = λ j. HasMade setup (n + 1) (half_at v j) in
+          subst At (sym same) counted
+      | inr apart ↦ subst One (others k apart) (before k (omega (arith, earlier, apart)))
+    ])
     (λ k later within. subst As (others k (λ same. omega (arith, same, later))) (after k (omega (arith, later)) within))
     both.1 h below)
 
@@ -204,11 +204,11 @@ rounds_end setup u j stand past built =
     let v = reach_from setup u names in
     let each = all_from setup u names stand in
     let over : (h : ℕ) → h < setup.harts → want_of setup v h ≡ IsOver = λ h below. elim (cases_Bool (is_over (want_of setup v h))) [
-    | inl over ↦ over_by (want_of setup v h) over
-    | inr busy ↦
-        let made : 0 + j ≤ (half_at v h).state.ends = rounds_count setup u j 0 stand (λ k within busy. omega arith) built h below busy in
-        absurd (omega (arith, made, past h below, stands_within setup v h (each.each h below) busy))
-  ] in
+      | inl over ↦ over_by (want_of setup v h) over
+      | inr busy ↦
+          let made : 0 + j ≤ (half_at v h).state.ends = rounds_count setup u j 0 stand (λ k within busy. omega arith) built h below busy in
+          absurd (omega (arith, made, past h below, stands_within setup v h (each.each h below) busy))
+    ] in
     ended_all setup v (λ h below. stands_over setup v h (over h below) (each.each h below)) over
 
 pub below_most : (setup : Setup) (h : ℕ) → h < setup.harts → setup.budget < most_rounds setup

@@ -186,13 +186,13 @@ stands_still setup u h k other stands =
     let half = half_at-other setup u k h other in
     let same = step_count_other setup u h k other in
     elim stands [
-    | Works left unspent leads few ↦
-        works_in setup (step setup u k) h left (half_at u h).state.ends (story_of setup u h) (ap (λ (x : Half). x.state.ends) half) (ap (place_in setup) half) unspent leads (omega (arith, same, few))
-    | Retires e within few ↦
-        let ends = ap (λ (x : Half). x.state.ends) half in
-        Retires (ap (place_in setup) half ∙ e) (omega (arith, ends, within)) (omega (arith, same, few))
-    | Retired e spent few ↦ Retired (ap (place_in setup) half ∙ e) (step_stays_spent setup u h k spent) (omega (arith, same, few))
-  ]
+      | Works left unspent leads few ↦
+          works_in setup (step setup u k) h left (half_at u h).state.ends (story_of setup u h) (ap (λ (x : Half). x.state.ends) half) (ap (place_in setup) half) unspent leads (omega (arith, same, few))
+      | Retires e within few ↦
+          let ends = ap (λ (x : Half). x.state.ends) half in
+          Retires (ap (place_in setup) half ∙ e) (omega (arith, ends, within)) (omega (arith, same, few))
+      | Retired e spent few ↦ Retired (ap (place_in setup) half ∙ e) (step_stays_spent setup u h k spent) (omega (arith, same, few))
+    ]
 
 -- the hart's own step while it works
 works_on : (setup : Setup) (u : Machine) (h left : ℕ) (s : Story) → h < setup.harts → h < length u.harts → story_of setup u h ≡ s

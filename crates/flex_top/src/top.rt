@@ -40,9 +40,10 @@ pub fn flex_top<O: Outer>(alloc: Global, words: &[String], outer: &mut O) -> Sta
         → result ≡ Status.WriteFault → ChangesFile (O.written outer.old) (O.written outer.new) r.trace (BecomesPart (trace_of (setup_of file r.harts r.ram r.budget) r.order)) }
     ensures whole { (r : Reading) (file : List ℕ) → reading (map string_bytes words.now) ≡ Some r → IsSomeAnd (O.held outer.old) (λ files. files r.image ≡ Some file)
         → result ≡ Status.Ended → IsWhole (setup_of file r.harts r.ram r.budget) r.order }
-    // Why every run comes to its end: until then some hart has a next event, and no hart makes more than so many.
-    ensures goes_on { (setup : Setup) (order : List ℕ) → GoesOn setup order }
     ensures nothing { result ≢ Status.Ended → result ≢ Status.WriteFault → O.written outer.new ≡ O.written outer.old }
+
+    // Why a run ends: until then some hart has a next event, and no hart has one for ever.
+    ensures goes_on { (setup : Setup) (order : List ℕ) → GoesOn setup order }
 
     // What is said: the console bytes of the run, of which there are none so far.
     ensures console { (r : Reading) (file : List ℕ) → reading (map string_bytes words.now) ≡ Some r → IsSomeAnd (O.held outer.old) (λ files. files r.image ≡ Some file)

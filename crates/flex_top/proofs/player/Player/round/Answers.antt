@@ -9,9 +9,11 @@ use Rattle.flex_top.proofs.player.Player.round.Goals as goal
 
 pub loop-h-init : goal.loop-h-init
 loop-h-init c = λ setup order done rest at_first.
-    let all : setup.harts ≡ setup.harts - 0 = omega arith in
-    (omega arith, playing_as setup order done (done ++ []) (hart_numbers setup ++ rest) (range_with_len 0 (setup.harts - 0) ++ rest) c.args.self.now
-    (sym (append-nil done)) (ap (λ n. range_with_len 0 n ++ rest) all) at_first)
+    let all : setup.harts ≡ setup.harts - 0 = omega arith in (
+      omega arith,
+      playing_as setup order done (done ++ []) (hart_numbers setup ++ rest) (range_with_len 0 (setup.harts - 0) ++ rest) c.args.self.now
+          (sym (append-nil done)) (ap (λ n. range_with_len 0 n ++ rest) all) at_first,
+    )
 
 pub returns-in-Some : goal.returns-in-Some
 returns-in-Some c = λ setup order done rest at_first.
@@ -39,10 +41,12 @@ loop-h-preserved c = λ setup order done rest at_first.
     let later = range_with_len (h + 1) (setup.harts - (h + 1)) ++ rest in
     let playing = playing_as setup order so_far so_far (range_with_len h (setup.harts - h) ++ rest) (h ∷ later) c.loop-h.self refl (ap (λ ns. ns ++ rest) (numbers_more h setup.harts below)) was in
     let After : Option ℕ → Type 0 = λ pc. AfterTurn setup (reach setup (with_turns setup order so_far)) h pc c.turn.new.self in
-    let turned = subst After c.in-None.is (c.in_ok-turn.ensures setup (reach setup (with_turns setup order so_far)) playing.at) in
-    (omega (arith, below), playing_as setup order (so_far ++ h ∷ []) (done ++ range_with_len 0 (h + 1)) later later c.turn.new.self
-    (append_assoc done (range_with_len 0 h) (h ∷ []) ∙ ap (λ ns. done ++ ns) (sym (range_with_len_push h))) refl
-    (playing_turn setup order so_far later h c.loop-h.self c.turn.new.self playing below turned))
+    let turned = subst After c.in-None.is (c.in_ok-turn.ensures setup (reach setup (with_turns setup order so_far)) playing.at) in (
+      omega (arith, below),
+      playing_as setup order (so_far ++ h ∷ []) (done ++ range_with_len 0 (h + 1)) later later c.turn.new.self
+          (append_assoc done (range_with_len 0 h) (h ∷ []) ∙ ap (λ ns. done ++ ns) (sym (range_with_len_push h))) refl
+          (playing_turn setup order so_far later h c.loop-h.self c.turn.new.self playing below turned),
+    )
 
 pub returns : goal.returns
 returns c = λ setup order done rest at_first.
