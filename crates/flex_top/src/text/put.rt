@@ -1,10 +1,29 @@
 // Parts of a line, each put at its end.
 
-ghost use Rattle.std.specs.Prelude.{◌≡◌, ◌+◌, ◌/◌, ◌%◌, ◌^◌, ◌≤◌, ◌<◌, ◌++◌, length, take, decimal};
-ghost use Rattle.flex_top.specs.EventText.{hex_digit, hex_digits, hex, flag, span_text};
+ghost use Rattle.std.specs.Prelude.{◌≡◌, ◌+◌, ◌≤◌, ◌++◌, length, decimal};
+ghost use Rattle.flex_top.specs.EventText.{hex_digits, hex, flag, span_text};
 
 use flex_base::Line;
 use itoa::Buffer;
+
+// The two digits of each byte.
+static PAIRS: [u8; 512] = *b"\
+    000102030405060708090a0b0c0d0e0f\
+    101112131415161718191a1b1c1d1e1f\
+    202122232425262728292a2b2c2d2e2f\
+    303132333435363738393a3b3c3d3e3f\
+    404142434445464748494a4b4c4d4e4f\
+    505152535455565758595a5b5c5d5e5f\
+    606162636465666768696a6b6c6d6e6f\
+    707172737475767778797a7b7c7d7e7f\
+    808182838485868788898a8b8c8d8e8f\
+    909192939495969798999a9b9c9d9e9f\
+    a0a1a2a3a4a5a6a7a8a9aaabacadaeaf\
+    b0b1b2b3b4b5b6b7b8b9babbbcbdbebf\
+    c0c1c2c3c4c5c6c7c8c9cacbcccdcecf\
+    d0d1d2d3d4d5d6d7d8d9dadbdcdddedf\
+    e0e1e2e3e4e5e6e7e8e9eaebecedeeef\
+    f0f1f2f3f4f5f6f7f8f9fafbfcfdfeff";
 
 pub(crate) fn put(line: &mut Line, text: &[u8])
     requires { length line.old + length text.now ≤ 128 }
@@ -38,35 +57,29 @@ pub(crate) fn put_digits(line: &mut Line, count: usize, n: u64)
     ensures text { line.new ≡ line.old ++ hex_digits count n }
     ensures room { length line.new ≡ length line.old + count }
 {
-    let digits = digits_of(count, n);
-    put(line, &digits[..count]);
+    put(line, &digits_of(n)[16 - count..]);
 }
 
-// The digits, the first of which come first.
-fn digits_of(count: usize, n: u64) -> [u8; 16]
-    requires { count ≤ 16 }
-    ensures { take count result ≡ hex_digits count n }
+// All digits of a number, those of its highest byte first.
+fn digits_of(n: u64) -> [u8; 16]
+    ensures { result ≡ hex n }
 {
+    let bytes = n.to_be_bytes();
     let mut digits = [0; 16];
-    for i in 0..count {
-        digits[i] = hex_digit(digit_at(n, count - 1 - i));
+    for i in 0..8 {
+        let [high, low] = pair_of(bytes[i]);
+        digits[2 * i] = high;
+        digits[2 * i + 1] = low;
     }
     digits
 }
 
-// The digit of 16 to this power.
-fn digit_at(n: u64, power: usize) -> u8
-    requires { power < 16 }
-    ensures { result ≡ n / 16 ^ power % 16 }
+// The two digits of a byte.
+fn pair_of(byte: u8) -> [u8; 2]
+    ensures { result ≡ hex_digits 2 byte }
 {
-    ((n >> (4 * power as u32)) % 16) as u8
-}
-
-fn hex_digit(n: u8) -> u8
-    requires { n < 16 }
-    ensures { result ≡ hex_digit n }
-{
-    if n < 10 { b'0' + n } else { b'a' - 10 + n }
+    let from = 2 * byte as usize;
+    [PAIRS[from], PAIRS[from + 1]]
 }
 
 // An address or a value, by 16 digits.
