@@ -1,6 +1,6 @@
 // Parts of a line, each put at its end.
 
-ghost use Rattle.std.specs.Prelude.{◌≡◌, ◌+◌, ◌≤◌, ◌++◌, length, decimal};
+ghost use Rattle.std.specs.Prelude.{◌≡◌, ◌+◌, ◌≤◌, ◌<◌, ◌++◌, length, decimal};
 ghost use Rattle.flex_top.specs.EventText.{hex_digits, hex, flag, span_text};
 
 use flex_base::Line;
@@ -38,7 +38,11 @@ pub(crate) fn put_number(line: &mut Line, n: u64)
     ensures text { line.new ≡ line.old ++ decimal n }
     ensures room { length line.new ≤ length line.old + 20 }
 {
-    put(line, Buffer::new().format(n).as_bytes());
+    if n < 10 {
+        put_digit(line, n as u8);
+    } else {
+        put(line, Buffer::new().format(n).as_bytes());
+    }
 }
 
 // A number that has three digits at most, as a hart's.
@@ -47,7 +51,21 @@ pub(crate) fn put_small(line: &mut Line, n: u8)
     ensures text { line.new ≡ line.old ++ decimal n }
     ensures room { length line.new ≤ length line.old + 3 }
 {
-    put(line, Buffer::new().format(n).as_bytes());
+    if n < 10 {
+        put_digit(line, n);
+    } else {
+        put(line, Buffer::new().format(n).as_bytes());
+    }
+}
+
+// A number of one digit, as most are, at the cost of a byte.
+fn put_digit(line: &mut Line, n: u8)
+    requires digit { n < 10 }
+    requires fits { length line.old + 1 ≤ 128 }
+    ensures text { line.new ≡ line.old ++ decimal n }
+    ensures room { length line.new ≡ length line.old + 1 }
+{
+    put(line, &[b'0' + n]);
 }
 
 // So many hexadecimal digits of a number, in lower case, leading zeros among them.
