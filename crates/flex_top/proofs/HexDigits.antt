@@ -1,20 +1,12 @@
--- The digits of a number, by its bytes.
-use Rattle.std.proofs.Common.{◌≡◌, ℕ, ◌+◌, ◌-◌, ◌*◌, ◌/◌, ◌%◌, ◌^◌, ◌<◌, ◌≤◌, zero, suc, Bool, true, ◌&&◌, T, eqb, get_or, length, drop, List, [], ◌∷◌, ◌++◌, refl, ap, sym, ◌∙◌, inl, inr, arith, eq-zero-or-pos, eqb→eq, append_assoc, length-append}
+-- The digits of a number, by parts and by its bytes.
+use Rattle.std.proofs.Common.{◌≡◌, ℕ, ◌+◌, ◌-◌, ◌*◌, ◌/◌, ◌%◌, ◌^◌, ◌<◌, ◌≤◌, zero, suc, Bool, true, false, cond, ◌&&◌, T, eqb, bit_and, slice_index_or, codes, length, drop, List, [], ◌∷◌, ◌++◌, refl, ap, sym, ◌∙◌, inl, inr, arith, eq-zero-or-pos, eqb→eq, append_assoc, length-append}
 use Rattle.std.proofs.Math.Nat.{pow-suc, div-div-eq-div-mul}
 use Rattle.std.proofs.Math.Seq.{drop-append_seam}
-use Rattle.std.proofs.lemmas.Nat.{pow-add}
+use Rattle.std.proofs.lemmas.Nat.{and_mask}
 use Rattle.std.proofs.lemmas.List.{append-nil}
+use lib.Dec.{leb}
 use lib.Ieee.Fits.{and_l, and_r}
-use Rattle.std.specs.Int.{byte_at, bytes_high_first}
-use Rattle.std.specs.List.{flat_map}
 use Rattle.flex_top.specs.EventText.{hex_digit, hex_digits, hex}
-use Rattle.flex_top.specs.declared.text.put.TheConstants.{PAIRS}
-
-power_of_256 : (k : ℕ) → 256 ^ k ≡ 16 ^ (2 * k)
-power_of_256 zero = refl
-power_of_256 (suc k) =
-    let more : 2 * suc k ≡ 2 * k + 2 = omega arith in
-    pow-suc 256 k ∙ ap (λ (n : ℕ). n * 256) (power_of_256 k) ∙ sym (pow-add 16 (2 * k) 2) ∙ ap (λ (n : ℕ). 16 ^ n) (sym more)
 
 -- a quotient without one more digit
 quotient_more : (n k : ℕ) → n / 16 / 16 ^ k ≡ n / 16 ^ (suc k)
@@ -53,46 +45,50 @@ hex_digits-last count n within =
     ∙ ap (λ (k : ℕ). drop k (first ++ hex_digits count n)) (sym (length-hex_digits (16 - count) (n / 16 ^ count)))
     ∙ drop-append_seam first (hex_digits count n)
 
--- two digits are those of the lowest byte
-hex_digits-byte : (n : ℕ) → hex_digits 2 (n % 256) ≡ hex_digits 2 n
-unfolding hex_digits
-hex_digits-byte n =
-    let high : n % 256 / 16 % 16 ≡ n / 16 % 16 = omega arith in
-    let low : n % 256 % 16 ≡ n % 16 = omega arith in
-    rw (high, low) refl
+-- the digit at a place of the code's vector
+abbrev lane : ℕ → ℕ
+lane v = cond (leb 128 v) 0 (slice_index_or (codes "0123456789abcdef") (0 + v) 0)
 
-byte_at-is : (k n : ℕ) → byte_at k n ≡ n / 256 ^ k % 256
-byte_at-is zero n = let whole : n / 1 ≡ n = omega arith in ap (λ (m : ℕ). m % 256) (sym whole)
-byte_at-is (suc k) n = refl
+abbrev are_digits : ℕ → Bool
+are_digits zero = true
+are_digits (suc v) = eqb (lane v) (hex_digit v) && are_digits v
 
-pub hex_digits-bytes : (k n : ℕ) → flat_map (hex_digits 2) (bytes_high_first k n) ≡ hex_digits (2 * k) n
-unfolding hex_digits
-hex_digits-bytes zero n = refl
-hex_digits-bytes (suc k) n =
-    let more : 2 + 2 * k ≡ 2 * suc k = omega arith in
-    let pair : hex_digits 2 (byte_at k n) ≡ hex_digits 2 (n / 16 ^ (2 * k)) =
-    ap (hex_digits 2) (byte_at-is k n) ∙ hex_digits-byte (n / 256 ^ k) ∙ ap (λ (m : ℕ). hex_digits 2 (n / m)) (power_of_256 k) in
-    ap (λ (ds : List ℕ). ds ++ flat_map (hex_digits 2) (bytes_high_first k n)) pair
-    ∙ ap (λ (ds : List ℕ). hex_digits 2 (n / 16 ^ (2 * k)) ++ ds) (hex_digits-bytes k n)
-    ∙ sym (hex_digits-add 2 (2 * k) n)
-    ∙ ap (λ (m : ℕ). hex_digits m n) more
-
--- the digits of each byte below n stand in the table
-abbrev are_pairs : ℕ → Bool
-are_pairs zero = true
-are_pairs (suc b) = (eqb (get_or PAIRS (2 * b) 0) (hex_digit (b / 16)) && eqb (get_or PAIRS (2 * b + 1) 0) (hex_digit (b % 16))) && are_pairs b
-
-pairs_below : (n b : ℕ) → T (are_pairs n) → b < n → (get_or PAIRS (2 * b) 0 ≡ hex_digit (b / 16)) × (get_or PAIRS (2 * b + 1) 0 ≡ hex_digit (b % 16))
-pairs_below zero b t below = absurd (omega arith)
-pairs_below (suc n) b t below =
-    elim (eq-zero-or-pos (n - b)) [
-      | inl z ↦ let e : b ≡ n = omega arith in let both = and_l _ (are_pairs n) t in rw e (eqb→eq _ _ (and_l _ _ both), eqb→eq _ _ (and_r _ _ both))
-      | inr g ↦ pairs_below n b (and_r _ (are_pairs n) t) (omega arith)
+digits_below : (n v : ℕ) → T (are_digits n) → v < n → lane v ≡ hex_digit v
+digits_below zero v t below = absurd (omega arith)
+digits_below (suc n) v t below =
+    elim (eq-zero-or-pos (n - v)) [
+      | inl z ↦ let e : v ≡ n = omega arith in rw e (eqb→eq _ _ (and_l _ (are_digits n) t))
+      | inr g ↦ digits_below n v (and_r _ (are_digits n) t) (omega arith)
     ]
 
-pub PAIRS_at : (b : ℕ) → b < 256 → get_or PAIRS (2 * b) 0 ∷ get_or PAIRS (2 * b + 1) 0 ∷ [] ≡ hex_digits 2 b
+-- the bytes of a number, the highest first
+abbrev pub bytes_of : ℕ → ℕ → List ℕ
+bytes_of zero n = []
+bytes_of (suc k) n = bytes_of k (n / 256) ++ n % 256 ∷ []
+
+-- the digits of the halves of each
+abbrev pub halves : List ℕ → List ℕ
+halves [] = []
+halves (b ∷ bs) = lane (b / 16) ∷ lane (bit_and b 15) ∷ halves bs
+
+halves-append : (bs cs : List ℕ) → halves (bs ++ cs) ≡ halves bs ++ halves cs
+halves-append [] cs = refl
+halves-append (b ∷ bs) cs = ap (λ (ds : List ℕ). lane (b / 16) ∷ lane (bit_and b 15) ∷ ds) (halves-append bs cs)
+
+halves_last : (n : ℕ) → halves (n % 256 ∷ []) ≡ hex_digits 2 n
 unfolding hex_digits
-PAIRS_at b below =
-    let both = pairs_below 256 b tt below in
-    let high : b / 16 ≡ b / 16 % 16 = omega arith in
-    rw (both.0, both.1, ← high) refl
+halves_last n =
+    let low : bit_and (n % 256) 15 ≡ n % 16 = and_mask (n % 256) 4 ∙ omega arith in
+    let high : n % 256 / 16 ≡ n / 16 % 16 = omega arith in
+    rw (high, low, digits_below 16 (n / 16 % 16) tt (omega arith), digits_below 16 (n % 16) tt (omega arith)) refl
+
+pub halves-bytes : (k n : ℕ) → halves (bytes_of k n) ≡ hex_digits (2 * k) n
+unfolding hex_digits
+halves-bytes zero n = refl
+halves-bytes (suc k) n =
+    let more : 2 * k + 2 ≡ 2 * suc k = omega arith in
+    halves-append (bytes_of k (n / 256)) (n % 256 ∷ [])
+    ∙ ap (λ (ds : List ℕ). ds ++ halves (n % 256 ∷ [])) (halves-bytes k (n / 256))
+    ∙ ap (λ (ds : List ℕ). hex_digits (2 * k) (n / 256) ++ ds) (halves_last n)
+    ∙ sym (hex_digits-add (2 * k) 2 n)
+    ∙ ap (λ (m : ℕ). hex_digits m n) more

@@ -5,25 +5,13 @@ ghost use Rattle.flex_top.specs.EventText.{hex_digits, hex, flag, span_text};
 
 use flex_base::Line;
 use itoa::Buffer;
+use std::simd::prelude::*;
 
-// The two digits of each byte.
-static PAIRS: [u8; 512] = *b"\
-    000102030405060708090a0b0c0d0e0f\
-    101112131415161718191a1b1c1d1e1f\
-    202122232425262728292a2b2c2d2e2f\
-    303132333435363738393a3b3c3d3e3f\
-    404142434445464748494a4b4c4d4e4f\
-    505152535455565758595a5b5c5d5e5f\
-    606162636465666768696a6b6c6d6e6f\
-    707172737475767778797a7b7c7d7e7f\
-    808182838485868788898a8b8c8d8e8f\
-    909192939495969798999a9b9c9d9e9f\
-    a0a1a2a3a4a5a6a7a8a9aaabacadaeaf\
-    b0b1b2b3b4b5b6b7b8b9babbbcbdbebf\
-    c0c1c2c3c4c5c6c7c8c9cacbcccdcecf\
-    d0d1d2d3d4d5d6d7d8d9dadbdcdddedf\
-    e0e1e2e3e4e5e6e7e8e9eaebecedeeef\
-    f0f1f2f3f4f5f6f7f8f9fafbfcfdfeff";
+// The digits by their values.
+const DIGITS: [u8; 16] = *b"0123456789abcdef";
+
+// From the highest byte to the lowest, the place of its high half and, 8 further, of its low half.
+const IN_TURN: [usize; 16] = [7, 15, 6, 14, 5, 13, 4, 12, 3, 11, 2, 10, 1, 9, 0, 8];
 
 pub(crate) fn put(line: &mut Line, text: &[u8])
     requires { length line.old + length text.now ≤ 128 }
@@ -78,26 +66,15 @@ pub(crate) fn put_digits(line: &mut Line, count: usize, n: u64)
     put(line, &digits_of(n)[16 - count..]);
 }
 
-// All digits of a number, those of its highest byte first.
+// All digits of a number, by the halves of its bytes.
 fn digits_of(n: u64) -> [u8; 16]
     ensures { result ≡ hex n }
 {
-    let bytes = n.to_be_bytes();
-    let mut digits = [0; 16];
-    for i in 0..8 {
-        let [high, low] = pair_of(bytes[i]);
-        digits[2 * i] = high;
-        digits[2 * i + 1] = low;
-    }
-    digits
-}
-
-// The two digits of a byte.
-fn pair_of(byte: u8) -> [u8; 2]
-    ensures { result ≡ hex_digits 2 byte }
-{
-    let from = 2 * byte as usize;
-    [PAIRS[from], PAIRS[from + 1]]
+    let bytes = u64x1::splat(n).to_le_bytes();
+    let high = bytes >> u8x8::splat(4);
+    let low = bytes & u8x8::splat(15);
+    let values = high.shuffle(low, IN_TURN);
+    u8x16::from_array(DIGITS).swizzle_dyn(values).to_array()
 }
 
 // An address or a value, by 16 digits.
