@@ -1,5 +1,5 @@
 -- The digits of a number, by parts and by its bytes.
-use Rattle.std.proofs.Common.{◌≡◌, ℕ, ◌+◌, ◌-◌, ◌*◌, ◌/◌, ◌%◌, ◌^◌, ◌<◌, ◌≤◌, zero, suc, Bool, true, false, cond, ◌&&◌, T, eqb, bit_and, slice_index_or, codes, length, drop, List, [], ◌∷◌, ◌++◌, refl, ap, sym, ◌∙◌, inl, inr, arith, eq-zero-or-pos, eqb→eq, append_assoc, length-append}
+use Rattle.std.proofs.Common.{◌≡◌, ℕ, ◌+◌, ◌-◌, ◌*◌, ◌/◌, ◌%◌, ◌^◌, ◌<◌, ◌≤◌, zero, suc, Bool, true, cond, ◌&&◌, T, eqb, bit_and, slice_index_or, codes, length, drop, List, [], ◌∷◌, ◌++◌, refl, ap, sym, ◌∙◌, inl, inr, arith, eq-zero-or-pos, eqb→eq, append_assoc, length-append}
 use Rattle.std.proofs.Math.Nat.{pow-suc, div-div-eq-div-mul}
 use Rattle.std.proofs.Math.Seq.{drop-append_seam}
 use Rattle.std.proofs.lemmas.Nat.{and_mask}
@@ -45,10 +45,11 @@ hex_digits-last count n within =
     ∙ ap (λ (k : ℕ). drop k (first ++ hex_digits count n)) (sym (length-hex_digits (16 - count) (n / 16 ^ count)))
     ∙ drop-append_seam first (hex_digits count n)
 
--- the digit at a place of the code's vector
+-- what the vector of digits gives for a value
 abbrev lane : ℕ → ℕ
 lane v = cond (leb 128 v) 0 (slice_index_or (codes "0123456789abcdef") (0 + v) 0)
 
+-- it gives the digit of each value below n
 abbrev are_digits : ℕ → Bool
 are_digits zero = true
 are_digits (suc v) = eqb (lane v) (hex_digit v) && are_digits v
@@ -62,12 +63,12 @@ digits_below (suc n) v t below =
     ]
 
 -- the bytes of a number, the highest first
-abbrev pub bytes_of : ℕ → ℕ → List ℕ
+abbrev bytes_of : ℕ → ℕ → List ℕ
 bytes_of zero n = []
 bytes_of (suc k) n = bytes_of k (n / 256) ++ n % 256 ∷ []
 
--- the digits of the halves of each
-abbrev pub halves : List ℕ → List ℕ
+-- what it gives for the halves of each
+abbrev halves : List ℕ → List ℕ
 halves [] = []
 halves (b ∷ bs) = lane (b / 16) ∷ lane (bit_and b 15) ∷ halves bs
 

@@ -7,7 +7,7 @@ use flex_base::Line;
 use itoa::Buffer;
 use std::simd::prelude::*;
 
-// The digits by their values.
+// Each digit at the place of its value.
 const DIGITS: [u8; 16] = *b"0123456789abcdef";
 
 // From the highest byte to the lowest, the place of its high half and, 8 further, of its low half.
@@ -46,7 +46,7 @@ pub(crate) fn put_small(line: &mut Line, n: u8)
     }
 }
 
-// A number of one digit, as most are, at the cost of a byte.
+// A number of one digit, as most harts' and all widths are: it needs no buffer.
 fn put_digit(line: &mut Line, n: u8)
     requires digit { n < 10 }
     requires fits { length line.old + 1 ≤ 128 }
@@ -66,7 +66,7 @@ pub(crate) fn put_digits(line: &mut Line, count: usize, n: u64)
     put(line, &digits_of(n)[16 - count..]);
 }
 
-// All digits of a number, by the halves of its bytes.
+// All digits of a number at once: the halves of its bytes are the digits' values.
 fn digits_of(n: u64) -> [u8; 16]
     ensures { result ≡ hex n }
 {

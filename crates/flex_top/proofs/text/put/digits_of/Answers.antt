@@ -1,3 +1,4 @@
+-- The halves of the eight bytes, as the vectors give them.
 use Rattle.std.proofs.Common.{◌≡◌, ℕ, ◌+◌, ap, ◌∙◌, arith}
 use Rattle.flex_top.specs.EventText.{hex}
 use Rattle.flex_top.proofs.HexDigits.{halves-bytes}

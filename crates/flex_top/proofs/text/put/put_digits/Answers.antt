@@ -1,4 +1,5 @@
-use Rattle.std.proofs.Common.{◌≡◌, ◌-◌, ◌++◌, ◌≤◌, List, ℕ, length, take, drop, ap, ◌∙◌, arith}
+-- The last digits of all.
+use Rattle.std.proofs.Common.{◌-◌, ◌++◌, ◌≤◌, List, ℕ, length, take, drop, ap, ◌∙◌, arith}
 use Rattle.std.proofs.lemmas.List.{take_all}
 use Rattle.flex_top.specs.EventText.{hex_digits}
 use Rattle.flex_top.proofs.HexDigits.{hex_digits-last, length-hex_digits}
@@ -8,9 +9,8 @@ pub returns-clause-text : goal.returns-clause-text
 returns-clause-text c =
     let count = c.args.count in
     let from = 16 - count in
-    let last = c.digits_of.ensures in
     let short : length (hex_digits count c.args.n) ≤ 16 - from = omega (arith, length-hex_digits count c.args.n, c.requires.count) in
     c.put.ensures.text
-    ∙ ap (λ (ds : List ℕ). c.args.line.now ++ take (16 - from) (drop from ds)) last
+    ∙ ap (λ (ds : List ℕ). c.args.line.now ++ take (16 - from) (drop from ds)) c.digits_of.ensures
     ∙ ap (λ (ds : List ℕ). c.args.line.now ++ take (16 - from) ds) (hex_digits-last count c.args.n c.requires.count)
     ∙ ap (λ (ds : List ℕ). c.args.line.now ++ ds) (take_all (16 - from) (hex_digits count c.args.n) short)
