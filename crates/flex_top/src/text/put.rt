@@ -1,10 +1,17 @@
 // Parts of a line, each put at its end.
 
-ghost use Rattle.std.specs.Prelude.{◌≡◌, ◌+◌, ◌/◌, ◌%◌, ◌^◌, ◌≤◌, ◌<◌, ◌++◌, length, take, decimal};
-ghost use Rattle.flex_top.specs.EventText.{hex_digit, hex_digits, hex, flag, span_text};
+ghost use Rattle.std.specs.Prelude.{◌≡◌, ◌+◌, ◌≤◌, ◌<◌, ◌++◌, length, decimal};
+ghost use Rattle.flex_top.specs.EventText.{hex_digits, hex, flag, span_text};
 
 use flex_base::Line;
 use itoa::Buffer;
+use std::simd::prelude::*;
+
+// Each digit at the place of its value.
+const DIGITS: [u8; 16] = *b"0123456789abcdef";
+
+// From the highest byte to the lowest, the place of its high half and, 8 further, of its low half.
+const IN_TURN: [usize; 16] = [7, 15, 6, 14, 5, 13, 4, 12, 3, 11, 2, 10, 1, 9, 0, 8];
 
 pub(crate) fn put(line: &mut Line, text: &[u8])
     requires { length line.old + length text.now ≤ 128 }
@@ -19,7 +26,11 @@ pub(crate) fn put_number(line: &mut Line, n: u64)
     ensures text { line.new ≡ line.old ++ decimal n }
     ensures room { length line.new ≤ length line.old + 20 }
 {
-    put(line, Buffer::new().format(n).as_bytes());
+    if n < 10 {
+        put_digit(line, n as u8);
+    } else {
+        put(line, Buffer::new().format(n).as_bytes());
+    }
 }
 
 // A number that has three digits at most, as a hart's.
@@ -28,7 +39,21 @@ pub(crate) fn put_small(line: &mut Line, n: u8)
     ensures text { line.new ≡ line.old ++ decimal n }
     ensures room { length line.new ≤ length line.old + 3 }
 {
-    put(line, Buffer::new().format(n).as_bytes());
+    if n < 10 {
+        put_digit(line, n);
+    } else {
+        put(line, Buffer::new().format(n).as_bytes());
+    }
+}
+
+// A number of one digit, as most harts' and all widths are: it needs no buffer.
+fn put_digit(line: &mut Line, n: u8)
+    requires digit { n < 10 }
+    requires fits { length line.old + 1 ≤ 128 }
+    ensures text { line.new ≡ line.old ++ decimal n }
+    ensures room { length line.new ≡ length line.old + 1 }
+{
+    put(line, &[b'0' + n]);
 }
 
 // So many hexadecimal digits of a number, in lower case, leading zeros among them.
@@ -38,35 +63,18 @@ pub(crate) fn put_digits(line: &mut Line, count: usize, n: u64)
     ensures text { line.new ≡ line.old ++ hex_digits count n }
     ensures room { length line.new ≡ length line.old + count }
 {
-    let digits = digits_of(count, n);
-    put(line, &digits[..count]);
+    put(line, &digits_of(n)[16 - count..]);
 }
 
-// The digits, the first of which come first.
-fn digits_of(count: usize, n: u64) -> [u8; 16]
-    requires { count ≤ 16 }
-    ensures { take count result ≡ hex_digits count n }
+// All digits of a number at once: the halves of its bytes are the digits' values.
+fn digits_of(n: u64) -> [u8; 16]
+    ensures { result ≡ hex n }
 {
-    let mut digits = [0; 16];
-    for i in 0..count {
-        digits[i] = hex_digit(digit_at(n, count - 1 - i));
-    }
-    digits
-}
-
-// The digit of 16 to this power.
-fn digit_at(n: u64, power: usize) -> u8
-    requires { power < 16 }
-    ensures { result ≡ n / 16 ^ power % 16 }
-{
-    ((n >> (4 * power as u32)) % 16) as u8
-}
-
-fn hex_digit(n: u8) -> u8
-    requires { n < 16 }
-    ensures { result ≡ hex_digit n }
-{
-    if n < 10 { b'0' + n } else { b'a' - 10 + n }
+    let bytes = u64x1::splat(n).to_le_bytes();
+    let high = bytes >> u8x8::splat(4);
+    let low = bytes & u8x8::splat(15);
+    let values = high.shuffle(low, IN_TURN);
+    u8x16::from_array(DIGITS).swizzle_dyn(values).to_array()
 }
 
 // An address or a value, by 16 digits.
