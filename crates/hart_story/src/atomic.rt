@@ -1,7 +1,6 @@
 ghost use Rattle.std.specs.Prelude.{◌≡◌, ℕ, ◌<◌};
 ghost use Rattle.flex_base.specs.Setup.{Setup};
 ghost use Rattle.flex_base.specs.State.{State};
-ghost use Rattle.flex_base.specs.FlatMemory.{granule, is_reserved};
 ghost use Rattle.flex_base.specs.Forms.{IsAtomicWidth};
 ghost use Rattle.flex_base.specs.Story.{loads_reserved, stores_conditional, concludes, modifies};
 ghost use Rattle.flex_base.specs.declared.settings.Layout.{Layout};
@@ -14,7 +13,7 @@ use crate::hart::Hart;
 use crate::outcome::{End, Outcome};
 use crate::register::reserved;
 use crate::width::{cut, is_reached};
-use flex_base::{Access, AmoOp, Class, Layout};
+use flex_base::{Access, AmoOp, Class, Layout, granule, is_reserved};
 
 // A load-reserved.
 pub(crate) fn load_reserved(layout: &Layout, width: u8, rd: u8, address: u64) -> Outcome
@@ -103,21 +102,5 @@ pub(crate) fn modify(
         }
     } else {
         Outcome::Unbuilt
-    }
-}
-
-// The aligned 8 bytes that contain the address.
-pub(crate) fn granule(address: u64) -> u64
-    ensures { result ≡ granule address }
-{
-    address - address % 8
-}
-
-fn is_reserved(reservation: Option<u64>, granule: u64) -> bool
-    ensures { result ≡ is_reserved reservation granule }
-{
-    match reservation {
-        Some(held) => held == granule,
-        None => false,
     }
 }

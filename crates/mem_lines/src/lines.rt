@@ -12,9 +12,9 @@ ghost use Rattle.mem_lines.specs.Steps.{done, IsSpan, IsHere, Follows, reply_of}
 
 use crate::image_bytes::bank_bytes;
 use crate::little_endian::{load, store};
-use crate::reservations::{Reservations, granule_of};
+use crate::reservations::Reservations;
 use crate::spots::spot;
-use flex_base::{Access, AmoOp, HartId, Image, Reply, Settings};
+use flex_base::{Access, AmoOp, HartId, Image, Reply, Settings, granule};
 use rv_alu::amo;
 use std::alloc::{AllocError, Global};
 use std::marker::Model;
@@ -194,7 +194,7 @@ impl Lines {
         ensures follows { Follows (done hart (Access.Lr address width) result) self.old self.new }
     {
         let value = self.value(address, width);
-        self.reserve(hart, granule_of(address));
+        self.reserve(hart, granule(address));
         Reply::told(value)
     }
 
@@ -253,7 +253,7 @@ impl Lines {
         requires hart { hart < 32 }
         ensures { result ≡ is_reserved (reserved self.now hart) (granule address) }
     {
-        self.reservations.stands(hart, granule_of(address))
+        self.reservations.stands(hart, granule(address))
     }
 }
 
