@@ -10,6 +10,7 @@ ghost use Rattle.hart_story.specs.StandsFor.{Shows};
 ghost use Rattle.hart_story.specs.Telling.{end_of, outcome_of, IsSoundEnd, IsSoundOutcome};
 
 use crate::hart::Hart;
+use crate::memory::where_reached;
 use crate::outcome::{End, Outcome};
 use crate::register::reserved;
 use crate::width::{cut, is_reached};
@@ -22,15 +23,12 @@ pub(crate) fn load_reserved(layout: &Layout, width: u8, rd: u8, address: u64) ->
     ensures works { (setup : Setup) (most : ℕ) (a : State) → IsOf setup layout.now most → loads_reserved setup a width rd address ≡ outcome_of a result }
     ensures sound { (hart : Hart) → IsSoundOutcome layout.now hart result }
 {
-    if is_reached(layout, address, width) {
-        Outcome::Ask {
-            access: Access::Lr { address, width },
-            signed: true,
-            rd,
-        }
-    } else {
-        Outcome::Unbuilt
-    }
+    let ask = Outcome::Ask {
+        access: Access::Lr { address, width },
+        signed: true,
+        rd,
+    };
+    where_reached(layout, address, width, ask)
 }
 
 // A store-conditional. Where the hart has no reservation of these 8 bytes it fails with no access.
@@ -89,18 +87,15 @@ pub(crate) fn modify(
     ensures works { (setup : Setup) (most : ℕ) (a : State) → IsOf setup layout.now most → modifies setup a op width rd address value ≡ outcome_of a result }
     ensures sound { (hart : Hart) → IsSoundOutcome layout.now hart result }
 {
-    if is_reached(layout, address, width) {
-        Outcome::Ask {
-            access: Access::Amo {
-                op,
-                address,
-                width,
-                value: cut(width, value),
-            },
-            signed: true,
-            rd,
-        }
-    } else {
-        Outcome::Unbuilt
-    }
+    let ask = Outcome::Ask {
+        access: Access::Amo {
+            op,
+            address,
+            width,
+            value: cut(width, value),
+        },
+        signed: true,
+        rd,
+    };
+    where_reached(layout, address, width, ask)
 }
