@@ -13,7 +13,7 @@ use crate::hart::Hart;
 use crate::memory::where_reached;
 use crate::outcome::{End, Outcome};
 use crate::register::reserved;
-use crate::width::{cut, is_reached};
+use crate::width::cut;
 use flex_base::{Access, AmoOp, Class, Layout, granule, is_reserved};
 
 // A load-reserved.
@@ -46,10 +46,7 @@ pub(crate) fn store_conditional(
         → stores_conditional setup a width rd address value ≡ outcome_of a result }
     ensures sound { IsSoundOutcome layout.now hart.now result }
 {
-    if !is_reached(layout, address, width) {
-        return Outcome::Unbuilt;
-    }
-    if is_reserved(hart.regs.reservation, granule(address)) {
+    let outcome = if is_reserved(hart.regs.reservation, granule(address)) {
         Outcome::Ask {
             access: Access::Sc {
                 address,
@@ -61,7 +58,8 @@ pub(crate) fn store_conditional(
         }
     } else {
         Outcome::End(concluded(hart, rd, 1))
-    }
+    };
+    where_reached(layout, address, width, outcome)
 }
 
 // The end of a store-conditional, and of the hart's reservation with it.
