@@ -1,5 +1,6 @@
 ghost use Rattle.std.specs.Prelude.{◌≡◌};
 ghost use Rattle.flex_base.specs.Classes.{class_of_access};
+ghost use Rattle.flex_base.specs.FlatMemory.{reply_with};
 
 use crate::class::Class;
 use crate::operation::AmoOp;
@@ -77,6 +78,19 @@ pub struct Reply {
     pub lines: u64,
     /// Whether the run is to stop, for `Pulse` and `Wait`.
     pub stop: bool,
+}
+
+impl Reply {
+    /// A reply that tells a value and nothing else.
+    pub fn told(value: u64) -> Reply
+        ensures { result ≡ reply_with value }
+    {
+        Reply {
+            value,
+            lines: 0,
+            stop: false,
+        }
+    }
 }
 
 /// The class of an access.

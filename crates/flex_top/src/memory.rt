@@ -2,7 +2,7 @@ ghost use Rattle.std.specs.Prelude.{◌≡◌, ◌<◌, true};
 ghost use Rattle.flex_base.specs.Setup.{Setup};
 ghost use Rattle.flex_base.specs.Built.{is_built_access};
 ghost use Rattle.flex_base.specs.Forms.{HasForm, IsPlaced};
-ghost use Rattle.flex_base.specs.FlatMemory.{is_ram_access, reply_with};
+ghost use Rattle.flex_base.specs.FlatMemory.{is_ram_access};
 ghost use Rattle.flex_base.specs.Unsplit.{Machine, reply_to};
 ghost use Rattle.flex_top.specs.Memory.{Keeps, IsAlone, replayed};
 
@@ -21,7 +21,7 @@ pub(crate) fn act(lines: &mut Lines, hart: HartId, access: &Access) -> Reply
     if is_of_ram(access) {
         lines.act(hart, access)
     } else {
-        told(0)
+        Reply::told(0)
     }
 }
 
@@ -35,16 +35,5 @@ fn is_of_ram(access: &Access) -> bool
         Access::Lr { .. } | Access::Sc { .. } | Access::Amo { .. } => true,
         Access::DevRead { .. } | Access::DevWrite { .. } | Access::Pulse { .. } => false,
         Access::Wait { .. } | Access::Retire | Access::Time => false,
-    }
-}
-
-// A reply that tells a value and nothing else.
-fn told(value: u64) -> Reply
-    ensures { result ≡ reply_with value }
-{
-    Reply {
-        value,
-        lines: 0,
-        stop: false,
     }
 }

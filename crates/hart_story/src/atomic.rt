@@ -1,7 +1,6 @@
 ghost use Rattle.std.specs.Prelude.{◌≡◌, ℕ, ◌<◌};
 ghost use Rattle.flex_base.specs.Setup.{Setup};
 ghost use Rattle.flex_base.specs.State.{State};
-ghost use Rattle.flex_base.specs.FlatMemory.{granule, is_reserved};
 ghost use Rattle.flex_base.specs.Forms.{IsAtomicWidth};
 ghost use Rattle.flex_base.specs.Story.{loads_reserved, stores_conditional, concludes, modifies};
 ghost use Rattle.flex_base.specs.declared.settings.Layout.{Layout};
@@ -11,10 +10,11 @@ ghost use Rattle.hart_story.specs.StandsFor.{Shows};
 ghost use Rattle.hart_story.specs.Telling.{end_of, outcome_of, IsSoundEnd, IsSoundOutcome};
 
 use crate::hart::Hart;
+use crate::memory::where_reached;
 use crate::outcome::{End, Outcome};
 use crate::register::reserved;
-use crate::width::{cut, is_reached};
-use flex_base::{Access, AmoOp, Class, Layout};
+use crate::width::cut;
+use flex_base::{Access, AmoOp, Class, Layout, granule, is_reserved};
 
 // A load-reserved.
 pub(crate) fn load_reserved(layout: &Layout, width: u8, rd: u8, address: u64) -> Outcome
@@ -23,15 +23,12 @@ pub(crate) fn load_reserved(layout: &Layout, width: u8, rd: u8, address: u64) ->
     ensures works { (setup : Setup) (most : ℕ) (a : State) → IsOf setup layout.now most → loads_reserved setup a width rd address ≡ outcome_of a result }
     ensures sound { (hart : Hart) → IsSoundOutcome layout.now hart result }
 {
-    if is_reached(layout, address, width) {
-        Outcome::Ask {
-            access: Access::Lr { address, width },
-            signed: true,
-            rd,
-        }
-    } else {
-        Outcome::Unbuilt
-    }
+    let ask = Outcome::Ask {
+        access: Access::Lr { address, width },
+        signed: true,
+        rd,
+    };
+    where_reached(layout, address, width, ask)
 }
 
 // A store-conditional. Where the hart has no reservation of these 8 bytes it fails with no access.
@@ -49,10 +46,7 @@ pub(crate) fn store_conditional(
         → stores_conditional setup a width rd address value ≡ outcome_of a result }
     ensures sound { IsSoundOutcome layout.now hart.now result }
 {
-    if !is_reached(layout, address, width) {
-        return Outcome::Unbuilt;
-    }
-    if is_reserved(hart.regs.reservation, granule(address)) {
+    let outcome = if is_reserved(hart.regs.reservation, granule(address)) {
         Outcome::Ask {
             access: Access::Sc {
                 address,
@@ -64,7 +58,8 @@ pub(crate) fn store_conditional(
         }
     } else {
         Outcome::End(concluded(hart, rd, 1))
-    }
+    };
+    where_reached(layout, address, width, outcome)
 }
 
 // The end of a store-conditional, and of the hart's reservation with it.
@@ -90,34 +85,15 @@ pub(crate) fn modify(
     ensures works { (setup : Setup) (most : ℕ) (a : State) → IsOf setup layout.now most → modifies setup a op width rd address value ≡ outcome_of a result }
     ensures sound { (hart : Hart) → IsSoundOutcome layout.now hart result }
 {
-    if is_reached(layout, address, width) {
-        Outcome::Ask {
-            access: Access::Amo {
-                op,
-                address,
-                width,
-                value: cut(width, value),
-            },
-            signed: true,
-            rd,
-        }
-    } else {
-        Outcome::Unbuilt
-    }
-}
-
-// The aligned 8 bytes that contain the address.
-pub(crate) fn granule(address: u64) -> u64
-    ensures { result ≡ granule address }
-{
-    address - address % 8
-}
-
-fn is_reserved(reservation: Option<u64>, granule: u64) -> bool
-    ensures { result ≡ is_reserved reservation granule }
-{
-    match reservation {
-        Some(held) => held == granule,
-        None => false,
-    }
+    let ask = Outcome::Ask {
+        access: Access::Amo {
+            op,
+            address,
+            width,
+            value: cut(width, value),
+        },
+        signed: true,
+        rd,
+    };
+    where_reached(layout, address, width, ask)
 }

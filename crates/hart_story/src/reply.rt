@@ -4,12 +4,12 @@ ghost use Rattle.flex_base.specs.declared.settings.Layout.{Layout};
 ghost use Rattle.hart_story.specs.StandsFor.{Shows};
 ghost use Rattle.hart_story.specs.Telling.{end_of, closing, IsSoundEnd, IsSoundAsk};
 
-use crate::atomic::{concluded, granule};
+use crate::atomic::concluded;
 use crate::hart::Hart;
 use crate::outcome::End;
 use crate::register::{computed, passed, reserved};
 use crate::width::extended;
-use flex_base::{Access, Class};
+use flex_base::{Access, Class, granule};
 
 // The end of an instruction whose access was replied with this value.
 pub(crate) fn replied(hart: &Hart, access: Access, signed: bool, rd: u8, value: u64) -> End

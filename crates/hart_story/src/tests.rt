@@ -64,13 +64,19 @@ fn make(rt: &impl Abort, hart: &mut Hart, word: u32, value: u64) -> (Need, EndPa
     let mut progress = Progress::begin();
     match need(hart, &progress, &layout, BUDGET) {
         Need::Ask(Access::Fetch { .. }, Class::Fetch) => {
-            give(hart, &mut progress, &layout, BUDGET, reply_of(word as u64));
+            give(
+                hart,
+                &mut progress,
+                &layout,
+                BUDGET,
+                Reply::told(word as u64),
+            );
             let needed = need(hart, &progress, &layout, BUDGET);
             match needed {
                 Need::Finish(_) => (needed, finish(hart, progress, &layout, BUDGET)),
                 Need::Ask(access, _) => {
                     assert_form(rt, &access, value);
-                    give(hart, &mut progress, &layout, BUDGET, reply_of(value));
+                    give(hart, &mut progress, &layout, BUDGET, Reply::told(value));
                     match need(hart, &progress, &layout, BUDGET) {
                         Need::Finish(_) => (needed, finish(hart, progress, &layout, BUDGET)),
                         _ => rt.abort(),
@@ -80,16 +86,6 @@ fn make(rt: &impl Abort, hart: &mut Hart, word: u32, value: u64) -> (Need, EndPa
             }
         }
         _ => rt.abort(),
-    }
-}
-
-fn reply_of(value: u64) -> Reply
-    ensures { result ≡ reply_with value }
-{
-    Reply {
-        value,
-        lines: 0,
-        stop: false,
     }
 }
 

@@ -6,15 +6,15 @@ ghost use Rattle.flex_base.specs.Place.{ram_base};
 ghost use Rattle.flex_base.specs.Setup.{Setup};
 ghost use Rattle.flex_base.specs.Forms.{HasForm};
 ghost use Rattle.flex_base.specs.Unsplit.{noted};
-ghost use Rattle.flex_base.specs.FlatMemory.{Done, byte, flat, value_at, put, broken, granule, is_reserved, reply_with};
+ghost use Rattle.flex_base.specs.FlatMemory.{Done, byte, flat, value_at, put, broken, granule, is_reserved};
 ghost use Rattle.mem_lines.specs.Bank.{is_bank_count, spot, held, reserved, IsIn, IsReplay, IsBank, IsSame};
 ghost use Rattle.mem_lines.specs.Steps.{done, IsSpan, IsHere, Follows, reply_of};
 
 use crate::image_bytes::bank_bytes;
 use crate::little_endian::{load, store};
-use crate::reservations::{Reservations, granule_of};
+use crate::reservations::Reservations;
 use crate::spots::spot;
-use flex_base::{Access, AmoOp, HartId, Image, Reply, Settings};
+use flex_base::{Access, AmoOp, HartId, Image, Reply, Settings, granule};
 use rv_alu::amo;
 use std::alloc::{AllocError, Global};
 use std::marker::Model;
@@ -158,16 +158,16 @@ impl Lines {
         ensures follows { Follows (done hart acc.now result) self.old self.new }
     {
         match *acc {
-            Access::Fetch { address } => told(self.value(address, 4)),
-            Access::Pte { address } => told(self.value(address, 8)),
-            Access::Read { address, width } => told(self.value(address, width)),
+            Access::Fetch { address } => Reply::told(self.value(address, 4)),
+            Access::Pte { address } => Reply::told(self.value(address, 8)),
+            Access::Read { address, width } => Reply::told(self.value(address, width)),
             Access::Write {
                 address,
                 width,
                 value,
             } => {
                 self.write(hart, address, width, value);
-                told(0)
+                Reply::told(0)
             }
             Access::Lr { address, width } => self.load_reserved(hart, address, width),
             Access::Sc {
@@ -181,8 +181,8 @@ impl Lines {
                 width,
                 value,
             } => self.modify(hart, op, address, width, value),
-            Access::DevRead { .. } | Access::DevWrite { .. } | Access::Pulse { .. } => told(0),
-            Access::Wait { .. } | Access::Retire | Access::Time => told(0),
+            Access::DevRead { .. } | Access::DevWrite { .. } | Access::Time => Reply::told(0),
+            Access::Pulse { .. } | Access::Wait { .. } | Access::Retire => Reply::told(0),
         }
     }
 
@@ -194,8 +194,8 @@ impl Lines {
         ensures follows { Follows (done hart (Access.Lr address width) result) self.old self.new }
     {
         let value = self.value(address, width);
-        self.reserve(hart, granule_of(address));
-        told(value)
+        self.reserve(hart, granule(address));
+        Reply::told(value)
     }
 
     fn store_conditional(&mut self, hart: u8, address: u64, width: u8, value: u64) -> Reply
@@ -209,9 +209,9 @@ impl Lines {
         self.release(hart);
         if reserved {
             self.write(hart, address, width, value);
-            told(0)
+            Reply::told(0)
         } else {
-            told(1)
+            Reply::told(1)
         }
     }
 
@@ -225,7 +225,7 @@ impl Lines {
     {
         let old = self.value(address, width);
         self.write(hart, address, width, amo(op, old, value, width));
-        told(old)
+        Reply::told(old)
     }
 
     // Sets what a hart has reserved.
@@ -253,18 +253,7 @@ impl Lines {
         requires hart { hart < 32 }
         ensures { result ≡ is_reserved (reserved self.now hart) (granule address) }
     {
-        self.reservations.stands(hart, granule_of(address))
-    }
-}
-
-// A reply that tells a value and nothing else.
-fn told(value: u64) -> Reply
-    ensures { result ≡ reply_with value }
-{
-    Reply {
-        value,
-        lines: 0,
-        stop: false,
+        self.reservations.stands(hart, granule(address))
     }
 }
 

@@ -1,6 +1,7 @@
 ghost use Rattle.std.specs.Prelude.{◌≡◌, ℕ, ◌<◌, slice_index_or, if◌then◌else◌, ◌==◌, None, Some};
-ghost use Rattle.flex_base.specs.FlatMemory.{granule, broken, is_reserved};
+ghost use Rattle.flex_base.specs.FlatMemory.{broken, is_reserved};
 
+use flex_base::{granule, is_reserved};
 use std::marker::Model;
 
 // What each hart has reserved.
@@ -42,10 +43,7 @@ impl Reservations {
         requires { hart < 32 }
         ensures { result ≡ is_reserved (slice_index_or self.now hart None) granule }
     {
-        match self.places[hart as usize] {
-            Some(reserved) => reserved == granule,
-            None => false,
-        }
+        is_reserved(self.places[hart as usize], granule)
     }
 
     // A load-reserved by this hart: its earlier reservation is gone.
@@ -80,16 +78,9 @@ impl Reservations {
             return;
         }
         for hart in 0..self.harts {
-            if hart != by && self.stands(hart, granule_of(address)) {
+            if hart != by && self.stands(hart, granule(address)) {
                 self.release(hart);
             }
         }
     }
-}
-
-// The aligned 8 bytes that contain the address.
-pub(crate) fn granule_of(address: u64) -> u64
-    ensures { result ≡ granule address }
-{
-    address - address % 8
 }

@@ -1,8 +1,8 @@
 // What a hart needs at each place of an instruction.
-use super::{BUDGET, assert_fit, hart_at, layout, read, reply_of};
+use super::{BUDGET, assert_fit, hart_at, layout, read};
 use crate::work::work;
 use crate::{Hart, Need, Progress, give, need};
-use flex_base::{Access, Class};
+use flex_base::{Access, Class, Reply};
 use std::process::Abort;
 
 #[test]
@@ -193,7 +193,7 @@ fn retire(rt: &impl Abort, hart: &Hart, budget: u64) -> Progress {
     let mut progress = Progress::begin();
     match need(hart, &progress, &layout, budget) {
         Need::Ask(Access::Retire, Class::Pulse) => {
-            give(hart, &mut progress, &layout, budget, reply_of(0));
+            give(hart, &mut progress, &layout, budget, Reply::told(0));
             progress
         }
         _ => rt.abort(),

@@ -19,5 +19,5 @@ give-requires g c =
     let asked = told_asks access c.in-Ask-Retire-Pulse.field-1 (ask setup a []) (c.in-Ask-Retire-Pulse.ensures.told setup a [] at) in
     let Asked : Access → Type 0 = λ x. HasForm x (reply_with 0) in
     let Told : Reply → Type 0 = λ r. HasForm access r in
-    let form = subst Told (sym c.reply_of.ensures) (subst Asked (sym c.in-Ask-Retire-Pulse.field-0-is) (record { value = omega arith; lines = refl; stop = refl })) in
+    let form = subst Told (sym c.told.ensures) (subst Asked (sym c.in-Ask-Retire-Pulse.field-0-is) (record { value = omega arith; lines = refl; stop = refl })) in
     (setup, a, [], access, at, record { asks = asked.asks; built = asked.built }, form)
