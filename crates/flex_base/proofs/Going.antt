@@ -1,19 +1,18 @@
 -- A run goes on until it has ended, and the rounds end it.
-use Rattle.std.proofs.Common.{◌≡◌, ◌≢◌, ℕ, ◌+◌, ◌*◌, ◌<◌, ◌≤◌, zero, suc, Bool, true, false, if◌then◌else◌, nat_lt, List, [], ◌∷◌, ◌++◌, length, Option, None, Some, ◌⊎◌, inl, inr, refl, ap, sym, subst, ◌∙◌, arith}
+use Rattle.std.proofs.Common.{◌≡◌, ◌≢◌, ℕ, ◌+◌, ◌*◌, ◌<◌, ◌≤◌, zero, suc, Bool, true, false, nat_lt, List, [], ◌∷◌, ◌++◌, length, None, inl, inr, refl, ap, sym, subst, ◌∙◌, arith}
 use Rattle.std.specs.List.{list_all, range_with_len}
 use Rattle.std.proofs.Math.Nat.{mul-le-mul_right}
 use Rattle.std.proofs.lemmas.Bool.{cases_eq, cases_Bool, and_cases}
 use Rattle.std.proofs.lemmas.Bool.Decides.{nat_tests}
 use Rattle.flex_base.specs.Setup.{Setup}
 use Rattle.flex_base.specs.State.{State}
-use Rattle.flex_base.specs.Story.{Want, Asks, Ends, IsOver, IsLater, Story, Says, Closes, StaysOver, ComesLater, want}
-use Rattle.flex_base.specs.Unsplit.{Machine, Half, half_at, story_of, want_of, reply_to, begin, make, step, reach, reach_from, hart_numbers, is_spent, is_over, has_ended}
+use Rattle.flex_base.specs.Story.{IsOver, Story, Says, Closes, StaysOver, ComesLater, want}
+use Rattle.flex_base.specs.Unsplit.{Machine, Half, half_at, story_of, want_of, reply_to, begin, step, reach, reach_from, hart_numbers, is_spent, is_over, has_ended}
 use Rattle.flex_base.specs.Rounds.{turn, turn_of, turns, repeated, most_events, most_rounds, rounds, played}
-use Rattle.flex_base.specs.Built.{is_built, unbuilt_at, first_of, first_unbuilt}
+use Rattle.flex_base.specs.Built.{is_built, unbuilt_at, first_unbuilt}
 use Rattle.flex_base.specs.Going.{HasNext, count_of, GoesOn}
 use Rattle.flex_base.specs.declared.event.EndPart.{EndPart}
 use Rattle.flex_base.proofs.Machines.{reach-cons, reach-append, reach-none, step_over, step_beyond, half_after_access, story_after_access, half_after_end, half_at-other, length-step, place_in}
-use Rattle.flex_base.proofs.Stories.{retires}
 use Rattle.flex_base.proofs.Turns.{story_over, ended_all, some_number, over_by, over_ended, turns-cons, turns-append, first_none, first_unbuilt-append, unbuilt_here}
 use Rattle.flex_base.proofs.Standing.{Leads, Stands, Works, Retires, Retired, AllStand, steps_on, all_from, all_stand}
 

@@ -5,7 +5,7 @@ use Rattle.std.proofs.lemmas.List.Elements.{filter_map-append}
 use Rattle.flex_base.specs.Setup.{Setup}
 use Rattle.flex_base.specs.Story.{Want, Asks, Ends, IsOver, IsLater}
 use Rattle.flex_base.specs.Unsplit.{Machine, Made, half_at, want_of, reply_to, make, step, begin, unsplit, reach_from, does}
-use Rattle.flex_base.specs.Built.{is_built, is_built_access, unbuilt_at, first_of, first_unbuilt}
+use Rattle.flex_base.specs.Built.{is_built, is_built_access, unbuilt_at, first_unbuilt}
 use Rattle.flex_base.specs.Split.{Plan, split}
 use Rattle.flex_base.specs.Journal.{byte_of, sent, console}
 use Rattle.flex_base.specs.declared.access.Access.{Access}

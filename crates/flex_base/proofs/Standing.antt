@@ -1,8 +1,6 @@
 -- How each hart stands in every state that an order leads to.
-use Rattle.std.proofs.Common.{◌≡◌, ◌≢◌, ℕ, ◌+◌, ◌*◌, ◌<◌, ◌≤◌, zero, suc, Bool, true, false, ◌&&◌, ◌||◌, if◌then◌else◌, nat_lt, List, [], ◌∷◌, ◌++◌, ◌==◌, length, filter, append-nil, ◌⊎◌, inl, inr, refl, ap, sym, subst, ◌∙◌, arith, eq-eqb}
-use Rattle.std.specs.List.{list_all, list_any, range_with_len}
-use Rattle.std.proofs.lemmas.Bool.{cases_eq, cases_Bool, ne_eqb, or_left, or_right, and_cases}
-use Rattle.std.proofs.lemmas.Bool.Decides.{nat_tests}
+use Rattle.std.proofs.Common.{◌≡◌, ◌≢◌, ℕ, ◌+◌, ◌*◌, ◌<◌, ◌≤◌, zero, suc, Bool, true, false, ◌&&◌, ◌||◌, if◌then◌else◌, nat_lt, List, [], ◌∷◌, ◌++◌, ◌==◌, length, filter, append-nil, inl, inr, refl, ap, sym, subst, ◌∙◌, arith, eq-eqb}
+use Rattle.std.proofs.lemmas.Bool.{cases_eq, ne_eqb, or_left, or_right}
 use Rattle.std.proofs.lemmas.List.{length_push}
 use Rattle.std.proofs.lemmas.List.Elements.{filter-append}
 use Rattle.std.proofs.lemmas.List.Folds.{list_any-append}
@@ -13,23 +11,21 @@ use Rattle.flex_base.specs.Place.{in_ram, place_of}
 use Rattle.flex_base.specs.Word.{wrap, is_multiple}
 use Rattle.flex_base.specs.Decoding.{decoded}
 use Rattle.flex_base.specs.FlatMemory.{Done, flat, reply_with, is_ram_access, is_reserved, granule}
-use Rattle.flex_base.specs.Story.{Want, Asks, Ends, IsOver, IsLater, Story, Says, Closes, StaysOver, ComesLater, story, pulses, fetches, works, jumps, branches, is_taken, traps, at_place, reaches, reaches_ram, is_tick, goes, want}
-use Rattle.flex_base.specs.Unsplit.{Machine, Half, Made, half_of, half_at, story_of, want_of, reply_to, begin, make, makes, noted, does, step, reach, reach_from, hart_numbers, is_retire, is_spent, is_over, has_ended}
+use Rattle.flex_base.specs.Story.{Want, Asks, Ends, IsOver, IsLater, Story, Says, Closes, StaysOver, ComesLater, pulses, fetches, works, jumps, branches, is_taken, traps, at_place, reaches, reaches_ram, is_tick, want}
+use Rattle.flex_base.specs.Unsplit.{Machine, Half, Made, half_of, half_at, story_of, want_of, reply_to, begin, make, noted, does, step, reach, reach_from, is_retire, is_spent}
 use Rattle.flex_base.specs.Rounds.{most_events}
-use Rattle.flex_base.specs.Going.{HasNext, count_of, GoesOn}
+use Rattle.flex_base.specs.Going.{count_of}
 use Rattle.flex_base.specs.declared.access.Access.{Access}
 use Rattle.flex_base.specs.declared.access.Access.TheVariants as acc
 use Rattle.flex_base.specs.declared.access.Reply.{Reply}
-use Rattle.flex_base.specs.declared.event.EndPart.{EndPart}
 use Rattle.flex_base.specs.declared.event.What.{What}
 use Rattle.flex_base.specs.declared.event.What.TheVariants as what
 use Rattle.flex_base.specs.declared.operation.Op.{Op}
 use Rattle.flex_base.specs.declared.operation.Op.TheVariants as op
 use Rattle.flex_base.specs.declared.settings.Place.{Place}
 use Rattle.flex_base.specs.declared.settings.Place.TheVariants as place
-use Rattle.flex_base.proofs.Machines.{half_at-begin, StepsTo, Stays, Adds, step_steps, reach-cons, reach-append, reach-none, step_is, half_after_access, story_after_access, half_after_end, half_at-other, length-step, place_in}
+use Rattle.flex_base.proofs.Machines.{half_at-begin, Stays, Adds, step_steps, reach-cons, reach-none, step_is, half_after_access, story_after_access, half_after_end, half_at-other, length-step, place_in}
 use Rattle.flex_base.proofs.Stories.{retires, goes_on, after_pulse, story_spent, story_unspent}
-use Rattle.flex_base.proofs.Turns.{story_over, ended_all, some_number, over_by, over_ended}
 
 -- An instruction makes few events, and leaves its hart over by a reply with the stop alone.
 
