@@ -1,17 +1,17 @@
 -- A step of the player is a step of the machine.
-use Rattle.std.proofs.Common.{◌≡◌, ◌≢◌, ℕ, ◌<◌, Bool, true, false, ◌||◌, ◌&&◌, ◌==◌, if◌then◌else◌, nat_lt, List, [], ◌∷◌, ◌++◌, length, None, Some, inl, inr, refl, ap, sym, subst, ◌∙◌, arith, get_or, set, length-set, get_or-set_same, get_or-set_other}
+use Rattle.std.proofs.Common.{◌≡◌, ◌≢◌, ℕ, ◌<◌, Bool, true, false, ◌||◌, ◌&&◌, ◌==◌, if◌then◌else◌, List, [], ◌∷◌, ◌++◌, length, inl, inr, refl, ap, sym, subst, ◌∙◌, arith, get_or, set, length-set, get_or-set_same, get_or-set_other}
 use Rattle.std.proofs.lemmas.Bool.{cases_eq}
-use Rattle.std.proofs.lemmas.Bool.Decides.{eqb_tells, nat_tests}
+use Rattle.std.proofs.lemmas.Bool.Decides.{eqb_tells}
 use Rattle.std.proofs.lemmas.List.{get_or_default}
 use Rattle.std.proofs.lemmas.List.Folds.{list_any-append}
 use Rattle.std.proofs.lemmas.List.Sums.{fold_push}
 use Rattle.flex_base.specs.Setup.{Setup}
 use Rattle.flex_base.specs.State.{State, start}
-use Rattle.flex_base.specs.Story.{Want, Asks, Ends, IsOver, IsLater}
-use Rattle.flex_base.specs.Built.{is_built_access, is_built, unbuilt_at}
+use Rattle.flex_base.specs.Story.{Asks, Ends}
+use Rattle.flex_base.specs.Built.{is_built_access}
 use Rattle.flex_base.specs.Classes.{default_plan}
 use Rattle.flex_base.specs.FlatMemory.{Done, is_ram_access}
-use Rattle.flex_base.specs.Unsplit.{Machine, Made, Half, half_at, half_of, want_of, reply_to, step, make, makes, does, noted, is_spent, is_retire, is_over, stepped}
+use Rattle.flex_base.specs.Unsplit.{Machine, Made, Half, half_at, half_of, want_of, reply_to, step, make, makes, does, noted, is_spent, is_retire, stepped}
 use Rattle.flex_base.specs.Split.{Plan, part, parted, unparted}
 use Rattle.flex_base.specs.declared.access.Access.{Access}
 use Rattle.flex_base.specs.declared.access.Access.TheVariants as acc

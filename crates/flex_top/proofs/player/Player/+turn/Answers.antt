@@ -1,5 +1,5 @@
 -- The turn goes on where the step left it.
-use Rattle.std.proofs.Common.{ℕ, ◌<◌, Option, subst, arith}
+use Rattle.std.proofs.Common.{ℕ, Option, subst, arith}
 use Rattle.flex_base.specs.Setup.{Setup}
 use Rattle.flex_base.specs.Unsplit.{Machine}
 use Rattle.flex_top.specs.Play.{IsAt, AfterStep, AfterTurn, IsNearer}

@@ -1,10 +1,9 @@
 -- After the order the rounds, more than the budget has ends.
-use Rattle.std.proofs.Common.{◌≡◌, ℕ, ◌+◌, ◌-◌, ◌<◌, ◌++◌, Option, map, refl, subst, arith}
-use Rattle.flex_base.specs.Setup.{Setup}
+use Rattle.std.proofs.Common.{ℕ, ◌+◌, ◌-◌, ◌<◌, ◌++◌, Option, map, refl, subst, arith}
 use Rattle.flex_base.specs.Unsplit.{begin, reach, hart_numbers}
 use Rattle.flex_base.specs.Rounds.{repeated, most_rounds}
 use Rattle.flex_top.specs.Words.{hart_of}
-use Rattle.flex_top.specs.Play.{IsAt, IsReached, AfterOrder, AfterRound}
+use Rattle.flex_top.specs.Play.{AfterOrder, AfterRound}
 use Rattle.flex_top.proofs.Rounds.{budget_is, played_stuck, playing_rounds, playing_round, playing_as, repeated_push, below_rounds, played_all}
 use Rattle.flex_top.proofs.player.Player.play.Goals as goal
 

@@ -1,5 +1,5 @@
 -- What is told is what the machine's hart wants; the player follows it.
-use Rattle.std.proofs.Common.{◌≡◌, ◌+◌, ◌≤◌, ◌++◌, ◌∷◌, [], Some, refl, ap, sym, subst, ◌∙◌, ◌<◌, length, arith, get_or-set_same}
+use Rattle.std.proofs.Common.{◌≡◌, ◌++◌, ◌∷◌, [], Some, refl, ap, sym, subst, ◌∙◌, ◌<◌, length, arith}
 use Rattle.flex_base.specs.Unsplit.{Machine, half_at, want_of, reply_to, does}
 use Rattle.flex_base.specs.Story.{want}
 use Rattle.flex_base.specs.Built.{is_built}
