@@ -30,6 +30,7 @@ stands_over setup u h over (Works left unspent leads few) =
 stands_over setup u h over (Retires e within few) = let asks = ap want e in absurd cc
 stands_over setup u h over (Retired e spent few) = spent
 
+-- no hart has made more events than there can be
 stands_few : (setup : Setup) (u : Machine) (h : ℕ) → Stands setup u h → count_of h u.events ≤ most_events setup
 stands_few setup u h (Works left unspent leads few) = omega (arith, unspent, few)
 stands_few setup u h (Retires e within few) = omega (arith, few)
@@ -50,6 +51,7 @@ each_over setup u all h below = elim (cases_Bool (is_over (want_of setup u h))) 
   | inr busy ↦ let not_all = some_number (λ k. is_over (want_of setup u k)) 0 setup.harts h (omega arith) (omega (arith, below)) busy in absurd cc
 ]
 
+-- so while the run hasn't ended some hart isn't over
 has_next : (setup : Setup) (u : Machine) → AllStand setup u → has_ended setup u ≡ false → HasNext setup u
 has_next setup u all busy = elim (cases_Bool (list_all (λ h. is_over (want_of setup u h)) (hart_numbers setup))) [
   | inl over ↦
@@ -172,6 +174,7 @@ pub repeated-suc : (n : ℕ) (names : List ℕ) → repeated (suc n) names ≡ n
 unfolding repeated
 repeated-suc n names = refl
 
+-- so many rounds count as many ends of each hart
 rounds_count : (setup : Setup) (u : Machine) (j n : ℕ) → AllStand setup u → ((h : ℕ) → h < setup.harts → HasMade setup n (half_at u h))
     → first_unbuilt setup u (turns setup u (repeated j (hart_numbers setup))) ≡ None
     → (h : ℕ) → h < setup.harts → HasMade setup (n + j) (half_at (reach_from setup u (turns setup u (repeated j (hart_numbers setup)))) h)
@@ -210,6 +213,7 @@ rounds_end setup u j stand past built =
     ] in
     ended_all setup v (λ h below. stands_over setup v h (over h below) (each.each h below)) over
 
+-- there are more rounds than the budget
 pub below_most : (setup : Setup) (h : ℕ) → h < setup.harts → setup.budget < most_rounds setup
 below_most setup h below =
     let one : 1 ≤ setup.harts = omega (arith, below) in

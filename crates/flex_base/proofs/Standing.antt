@@ -62,6 +62,7 @@ jumps_leads a n target rd = either_leads (suc n) a.ends (is_multiple target 4) _
 branches_leads : (a : State) (n : ℕ) (taken : Bool) (target : ℕ) → Leads (suc n) a.ends (branches a taken target)
 branches_leads a n taken target = either_leads (suc n) a.ends taken _ _ (jumps_leads a n target 0) refl
 
+-- an instruction makes at most one access before its end
 works_leads : (setup : Setup) (a : State) (n : ℕ) (o : Op) → Leads (suc (suc n)) a.ends (works setup a o)
 works_leads setup a n (op.Lui rd imm) = refl
 works_leads setup a n (op.Auipc rd imm) = refl
