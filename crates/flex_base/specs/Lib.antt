@@ -1,6 +1,7 @@
 pub mod Word
 pub mod Limits
 pub mod Place
+pub mod Causes
 pub mod Loaded
 pub mod Files
 pub mod InMemory
