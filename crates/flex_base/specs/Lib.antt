@@ -4,6 +4,7 @@ pub mod Place
 pub mod Causes
 pub mod Loaded
 pub mod Files
+pub mod Outside
 pub mod InMemory
 pub mod Memory
 pub mod Classes

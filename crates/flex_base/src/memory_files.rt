@@ -1,5 +1,5 @@
 // Files in memory, which the outer objects over memory share.
-ghost use Rattle.std.specs.Prelude.{◌≡◌, ◌≢◌, ℕ, ◌≤◌, ◌++◌, List, [], length, Option, Some, IfOk, OnOk, OnErr, option_map, unwrap_or};
+ghost use Rattle.std.specs.Prelude.{◌≡◌, ◌≢◌, ℕ, ◌≤◌, ◌<◌, ◌++◌, List, [], length, Option, Some, IfOk, OnOk, OnErr, option_map, unwrap_or};
 ghost use Rattle.std.specs.Result.{result_map_both};
 ghost use Rattle.flex_base.specs.Files.{Files, Taken};
 ghost use Rattle.flex_base.specs.InMemory.{files_of, named, stored};
@@ -27,6 +27,7 @@ pub(crate) fn copy(alloc: Global, bytes: &[u8], limit: u64) -> Result<Vec<u8>, T
         → Taken (Some files) name limit (result_map_both (λ v. v.items) (λ e. e) result) }
     ensures within { IfOk result (λ v. length v.items ≤ limit) }
     ensures calm { result ≢ Err TakeFault.Failed }
+    ensures over { (n : ℕ) → result ≡ Err (TakeFault.TooLong n) → limit < n }
 {
     let length = bytes.len() as u64;
     if length > limit {
