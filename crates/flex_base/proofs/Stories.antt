@@ -4,6 +4,7 @@ use Rattle.std.proofs.lemmas.Bool.{ne_eqb}
 use Rattle.flex_base.specs.Setup.{Setup}
 use Rattle.flex_base.specs.State.{State}
 use Rattle.flex_base.specs.Place.{in_ram}
+use Rattle.flex_base.specs.Causes.{instruction_access_fault}
 use Rattle.flex_base.specs.Decoding.{decoded}
 use Rattle.flex_base.specs.Story.{Want, Asks, Ends, IsOver, IsLater, Story, Says, Closes, StaysOver, ComesLater, story, pulses, fetches, works, traps, is_tick, goes, want, ask, after_one}
 use Rattle.flex_base.specs.declared.access.Access.TheVariants as acc
@@ -49,10 +50,10 @@ pub story_undue : (setup : Setup) (a : State) → a.ends ≢ setup.budget → a.
 story_undue setup a unspent undue = story_unspent setup a unspent ∙ ap (λ b. if b then Says (acc.Pulse (is_tick a)) (after_pulse setup a) else fetches setup a) undue
 
 pub story_fetches : (setup : Setup) (a : State) → a.ends ≢ setup.budget → a.due ≡ false → in_ram setup.ram a.pc 4 ≡ true → story setup a ≡ goes_on setup a
-story_fetches setup a unspent undue within = story_undue setup a unspent undue ∙ ap (λ b. if b then goes_on setup a else traps a 1 a.pc) within
+story_fetches setup a unspent undue within = story_undue setup a unspent undue ∙ ap (λ b. if b then goes_on setup a else traps a instruction_access_fault a.pc) within
 
-pub story_outside : (setup : Setup) (a : State) → a.ends ≢ setup.budget → a.due ≡ false → in_ram setup.ram a.pc 4 ≡ false → story setup a ≡ traps a 1 a.pc
-story_outside setup a unspent undue outside = story_undue setup a unspent undue ∙ ap (λ b. if b then goes_on setup a else traps a 1 a.pc) outside
+pub story_outside : (setup : Setup) (a : State) → a.ends ≢ setup.budget → a.due ≡ false → in_ram setup.ram a.pc 4 ≡ false → story setup a ≡ traps a instruction_access_fault a.pc
+story_outside setup a unspent undue outside = story_undue setup a unspent undue ∙ ap (λ b. if b then goes_on setup a else traps a instruction_access_fault a.pc) outside
 
 -- At its beginning an instruction is never at its end, nor the hart over.
 
@@ -63,7 +64,7 @@ IsBeginning IsOver = ⊥
 IsBeginning IsLater = Unit {0}
 
 pub fetches_begin : (setup : Setup) (a : State) → IsBeginning (want (fetches setup a))
-fetches_begin setup a = elim (in_ram setup.ram a.pc 4) as (λ b. IsBeginning (want (if b then goes_on setup a else traps a 1 a.pc))) [ true ↦ tt | false ↦ tt ]
+fetches_begin setup a = elim (in_ram setup.ram a.pc 4) as (λ b. IsBeginning (want (if b then goes_on setup a else traps a instruction_access_fault a.pc))) [ true ↦ tt | false ↦ tt ]
 
 pulses_begin : (setup : Setup) (a : State) → IsBeginning (want (pulses setup a))
 pulses_begin setup a = elim a.due as (λ b. IsBeginning (want (if b then Says (acc.Pulse (is_tick a)) (after_pulse setup a) else fetches setup a))) [ true ↦ tt | false ↦ fetches_begin setup a ]

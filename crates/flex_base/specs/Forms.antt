@@ -2,7 +2,6 @@
 use Rattle.std.specs.Prelude.{◌≡◌, ℕ, ◌*◌, ◌^◌, ◌<◌, true, false, ◌||◌, ◌==◌}
 use Rattle.flex_base.specs.Word.{is_multiple}
 use Rattle.flex_base.specs.Place.{in_ram, place_of}
-use Rattle.flex_base.specs.Setup.{Setup}
 use Rattle.flex_base.specs.declared.access.Access.{Access}
 use Rattle.flex_base.specs.declared.access.Access.TheVariants as acc
 use Rattle.flex_base.specs.declared.access.Reply.{Reply}
@@ -37,9 +36,9 @@ HasForm acc.Retire reply = TellsValue 0 reply
 HasForm acc.Time reply = TellsValue 64 reply
 
 -- aligned bytes of RAM, as many as the width
-pub record IsAlignedRam (setup : Setup) (address width : ℕ) : Type 0 where
+pub record IsAlignedRam (ram address width : ℕ) : Type 0 where
   pub aligned : is_multiple address width ≡ true
-  pub in_ram : in_ram setup.ram address width ≡ true
+  pub in_ram : in_ram ram address width ≡ true
 
 -- a width of a load, a store or a device register
 abbrev pub IsWidth : ℕ → Type 0
@@ -49,15 +48,17 @@ IsWidth width = (width == 1) || (width == 2) || (width == 4) || (width == 8) ≡
 abbrev pub IsAtomicWidth : ℕ → Type 0
 IsAtomicWidth width = (width == 4) || (width == 8) ≡ true
 
--- an access stands where its kind may stand
-abbrev pub IsPlaced : Setup → Access → Type 0
-IsPlaced setup (acc.Fetch address) = IsAlignedRam setup address 4
-IsPlaced setup (acc.Pte address) = IsAlignedRam setup address 8
-IsPlaced setup (acc.Read address width) = IsWidth width × IsAlignedRam setup address width
-IsPlaced setup (acc.Write address width value) = IsWidth width × IsAlignedRam setup address width
-IsPlaced setup (acc.Lr address width) = IsAtomicWidth width × IsAlignedRam setup address width
-IsPlaced setup (acc.Sc address width value) = IsAtomicWidth width × IsAlignedRam setup address width
-IsPlaced setup (acc.Amo op address width value) = IsAtomicWidth width × IsAlignedRam setup address width
-IsPlaced setup (acc.DevRead address width) = place_of setup.harts setup.ram address width ≡ place.Device
-IsPlaced setup (acc.DevWrite address width value) = place_of setup.harts setup.ram address width ≡ place.Device
-IsPlaced setup other = Unit {0}
+-- Where each kind of access may stand, in a run of so many harts and so much RAM in bytes: an instruction's 4 bytes, an
+-- entry's 8 bytes, and loads, stores and atomic operations of their widths stand aligned in RAM; a device register is
+-- accessed where it stands. The others have no address.
+abbrev pub IsPlaced : ℕ → ℕ → Access → Type 0
+IsPlaced harts ram (acc.Fetch address) = IsAlignedRam ram address 4
+IsPlaced harts ram (acc.Pte address) = IsAlignedRam ram address 8
+IsPlaced harts ram (acc.Read address width) = IsWidth width × IsAlignedRam ram address width
+IsPlaced harts ram (acc.Write address width value) = IsWidth width × IsAlignedRam ram address width
+IsPlaced harts ram (acc.Lr address width) = IsAtomicWidth width × IsAlignedRam ram address width
+IsPlaced harts ram (acc.Sc address width value) = IsAtomicWidth width × IsAlignedRam ram address width
+IsPlaced harts ram (acc.Amo op address width value) = IsAtomicWidth width × IsAlignedRam ram address width
+IsPlaced harts ram (acc.DevRead address width) = place_of harts ram address width ≡ place.Device
+IsPlaced harts ram (acc.DevWrite address width value) = place_of harts ram address width ≡ place.Device
+IsPlaced harts ram other = Unit {0}

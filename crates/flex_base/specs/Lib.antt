@@ -5,8 +5,8 @@ pub mod Causes
 pub mod Loaded
 pub mod Files
 pub mod Outside
-pub mod InMemory
-pub mod Memory
+pub mod FilesInMemory
+pub mod OuterInMemory
 pub mod Classes
 pub mod Decoding
 pub mod Arithmetic
@@ -15,9 +15,11 @@ pub mod Setup
 pub mod Story
 pub mod Forms
 pub mod FlatMemory
+pub mod DevicesSoFar
+pub mod Reservations
 pub mod Unsplit
 pub mod Rounds
 pub mod Built
-pub mod Going
+pub mod EndOfRun
 pub mod Split
 pub mod Journal

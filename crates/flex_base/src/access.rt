@@ -82,7 +82,7 @@ pub struct Reply {
 
 impl Reply {
     /// A reply that tells a value and nothing else.
-    pub fn told(value: u64) -> Reply
+    pub fn with_value(value: u64) -> Reply
         ensures { result ≡ reply_with value }
     {
         Reply {

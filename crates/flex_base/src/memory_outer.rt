@@ -2,8 +2,8 @@ ghost use Rattle.std.specs.Prelude.{◌≡◌, ◌↔◌, ◌⊎◌, ℕ, ◌≤
 ghost use Rattle.std.specs.Result.{result_map_both};
 ghost use Rattle.flex_base.specs.Files.{Taken, ChangesFile, Appended, AppendedPart, Started};
 ghost use Rattle.flex_base.specs.Outside.{OnlyReads, OnlyWrites, OnlySays};
-ghost use Rattle.flex_base.specs.InMemory.{files_of, named, is_due, one_more};
-ghost use Rattle.flex_base.specs.Memory.{outside_of, held_files, written_files, said_bytes, calls_made, failing_calls, fails_next, MadeOneCall};
+ghost use Rattle.flex_base.specs.FilesInMemory.{files_of, entries_of, is_due, one_more};
+ghost use Rattle.flex_base.specs.OuterInMemory.{outside_of, held_files, written_files, said_bytes, calls_made, failing_calls, fails_next, MadeOneCall};
 
 use crate::counts::rise;
 use crate::memory_files::{append, copy, find, look, make_empty};
@@ -34,7 +34,7 @@ impl MemoryOuter {
     /// in `failing` fail and write nothing.
     pub fn new(alloc: Global, files: Vec<(Text, Vec<u8>)>, failing: Vec<u64>) -> MemoryOuter
         ensures outside { ⟦<MemoryOuter as Outer>⟧.outside result ≡ record {
-            held = Some (files_of (named files.items)); written = Some (λ _. None); said = Some []; read_faults = 0; write_faults = 0 } }
+            held = Some (files_of (entries_of files.items)); written = Some (λ _. None); said = Some []; read_faults = 0; write_faults = 0 } }
         ensures calls { calls_made result ≡ 0 }
         ensures failing { failing_calls result ≡ failing.items }
     {

@@ -1,5 +1,5 @@
 ghost use Rattle.std.specs.Prelude.{◌≡◌, None, Some};
-ghost use Rattle.flex_base.specs.InMemory.{files_or_empty, named};
+ghost use Rattle.flex_base.specs.FilesInMemory.{files_or_empty, entries_of};
 
 use crate::memory_files::{copy, find};
 use crate::outer::{Failed, Outer, TakeFault};
@@ -21,7 +21,7 @@ impl SteadyOuter {
     /// copied into memory of `alloc`.
     pub fn new(alloc: Global, files: Vec<(Text, Vec<u8>)>) -> SteadyOuter
         ensures { ⟦<SteadyOuter as Outer>⟧.outside result ≡ record {
-            held = Some (files_or_empty (named files.items)); written = None; said = None; read_faults = 0; write_faults = 0 } }
+            held = Some (files_or_empty (entries_of files.items)); written = None; said = None; read_faults = 0; write_faults = 0 } }
     {
         SteadyOuter { alloc, files }
     }
@@ -29,7 +29,7 @@ impl SteadyOuter {
 
 impl Outer for SteadyOuter {
     ghost outside = { λ outer. record {
-        held = Some (files_or_empty (named outer.files.items)); written = None; said = None; read_faults = 0; write_faults = 0 } };
+        held = Some (files_or_empty (entries_of outer.files.items)); written = None; said = None; read_faults = 0; write_faults = 0 } };
 
     fn take(&mut self, name: &str, limit: u64) -> Result<Vec<u8>, TakeFault> {
         match find(&self.files, name) {

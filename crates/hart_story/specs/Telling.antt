@@ -5,7 +5,7 @@ use Rattle.flex_base.specs.Limits.{mebibyte}
 use Rattle.flex_base.specs.Place.{in_ram}
 use Rattle.flex_base.specs.Setup.{Setup}
 use Rattle.flex_base.specs.State.{State}
-use Rattle.flex_base.specs.FlatMemory.{granule, is_reserved}
+use Rattle.flex_base.specs.FlatMemory.{reservation_set, is_reserved}
 use Rattle.flex_base.specs.Story.{Want, Asks, Ends, IsOver, IsLater, Story, Says, ComesLater, ends, computes, passes, concludes, extended}
 use Rattle.flex_base.specs.Built.{is_built_access, is_built_class}
 use Rattle.flex_base.specs.Classes.{class_of_access}
@@ -35,7 +35,7 @@ AsksPlaced setup other = Unit {0}
 
 -- a store-conditional lies within this reservation
 abbrev pub IsReservedFor : Option ℕ → Access → Type 0
-IsReservedFor reservation (acc.Sc address width value) = is_reserved reservation (granule address) ≡ true
+IsReservedFor reservation (acc.Sc address width value) = is_reserved reservation (reservation_set address) ≡ true
 IsReservedFor reservation other = Unit {0}
 
 -- a store-conditional is asked only within the hart's reservation
@@ -51,7 +51,7 @@ end_of a end = ends (record a { reservation = end.reservation }) end.class end.n
 abbrev pub closing : State → Access → Bool → ℕ → ℕ → Story
 closing a (acc.Read address width) signed rd value = computes a class.Load rd (extended signed width value)
 closing a (acc.Write address width written) signed rd value = passes a class.Store
-closing a (acc.Lr address width) signed rd value = computes (record a { reservation = Some (granule address) }) class.Atomic rd (extended true width value)
+closing a (acc.Lr address width) signed rd value = computes (record a { reservation = Some (reservation_set address) }) class.Atomic rd (extended true width value)
 closing a (acc.Sc address width written) signed rd value = concludes a rd value
 closing a (acc.Amo does address width operand) signed rd value = computes a class.Atomic rd (extended true width value)
 closing a other signed rd value = ComesLater

@@ -14,7 +14,7 @@ use crate::memory::where_reached;
 use crate::outcome::{End, Outcome};
 use crate::register::reserved;
 use crate::width::cut;
-use flex_base::{Access, AmoOp, Class, Layout, granule, is_reserved};
+use flex_base::{Access, AmoOp, Class, Layout, reservation_set, is_reserved};
 
 // A load-reserved.
 pub(crate) fn load_reserved(layout: &Layout, width: u8, rd: u8, address: u64) -> Outcome
@@ -46,7 +46,7 @@ pub(crate) fn store_conditional(
         → stores_conditional setup a width rd address value ≡ outcome_of a result }
     ensures sound { IsSoundOutcome layout.now hart.now result }
 {
-    let outcome = if is_reserved(hart.regs.reservation, granule(address)) {
+    let outcome = if is_reserved(hart.regs.reservation, reservation_set(address)) {
         Outcome::Ask {
             access: Access::Sc {
                 address,

@@ -9,7 +9,7 @@ use crate::hart::Hart;
 use crate::outcome::End;
 use crate::register::{computed, passed, reserved};
 use crate::width::extended;
-use flex_base::{Access, Class, granule};
+use flex_base::{Access, Class, reservation_set};
 
 // The end of an instruction whose access was replied with this value.
 pub(crate) fn replied(hart: &Hart, access: Access, signed: bool, rd: u8, value: u64) -> End
@@ -28,7 +28,7 @@ pub(crate) fn replied(hart: &Hart, access: Access, signed: bool, rd: u8, value: 
                 Class::Atomic,
                 rd,
                 extended(true, width, value),
-                Some(granule(address)),
+                Some(reservation_set(address)),
             )
         }
         Access::Sc { .. } => concluded(hart, rd, value),

@@ -69,14 +69,14 @@ fn make(rt: &impl Abort, hart: &mut Hart, word: u32, value: u64) -> (Need, EndPa
                 &mut progress,
                 &layout,
                 BUDGET,
-                Reply::told(word as u64),
+                Reply::with_value(word as u64),
             );
             let needed = need(hart, &progress, &layout, BUDGET);
             match needed {
                 Need::Finish(_) => (needed, finish(hart, progress, &layout, BUDGET)),
                 Need::Ask(access, _) => {
                     assert_form(rt, &access, value);
-                    give(hart, &mut progress, &layout, BUDGET, Reply::told(value));
+                    give(hart, &mut progress, &layout, BUDGET, Reply::with_value(value));
                     match need(hart, &progress, &layout, BUDGET) {
                         Need::Finish(_) => (needed, finish(hart, progress, &layout, BUDGET)),
                         _ => rt.abort(),

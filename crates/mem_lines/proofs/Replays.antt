@@ -5,7 +5,7 @@ use Rattle.std.proofs.lemmas.List.Sums.{fold_push}
 use Rattle.flex_base.specs.Place.{in_ram}
 use Rattle.flex_base.specs.Setup.{Setup}
 use Rattle.flex_base.specs.Forms.{IsPlaced, IsAlignedRam, IsWidth, IsAtomicWidth}
-use Rattle.flex_base.specs.FlatMemory.{Done, is_ram_access, left_by, image_byte, byte, reserved_by, value_at, flat, granule, is_reserved, reply_with}
+use Rattle.flex_base.specs.FlatMemory.{Done, is_ram_access, left_by, image_byte, byte, reserved_by, value_at, flat, reservation_set, is_reserved, reply_with}
 use Rattle.flex_base.specs.declared.access.Access.{Access}
 use Rattle.flex_base.specs.declared.access.Access.TheVariants as acc
 use Rattle.mem_lines.specs.Bank.{Bank, IsIn, IsReplay, IsSame, held, bank_of, address_of}
@@ -61,7 +61,7 @@ reply_flat setup b made hart (acc.Pte address) below here replay = read_flat set
 reply_flat setup b made hart (acc.Read address width) below here replay = read_flat setup b made address width here replay
 reply_flat setup b made hart (acc.Write address width value) below here replay = refl
 reply_flat setup b made hart (acc.Lr address width) below here replay = read_flat setup b made address width here replay
-reply_flat setup b made hart (acc.Sc address width value) below here replay = ap (λ place. reply_with (if is_reserved place (granule address) then 0 else 1)) (replay.reservations hart below)
+reply_flat setup b made hart (acc.Sc address width value) below here replay = ap (λ place. reply_with (if is_reserved place (reservation_set address) then 0 else 1)) (replay.reservations hart below)
 reply_flat setup b made hart (acc.Amo op address width value) below here replay = read_flat setup b made address width here.1 replay
 reply_flat setup b made hart other below here replay = absurd here
 

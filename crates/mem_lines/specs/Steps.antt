@@ -3,7 +3,7 @@ use Rattle.std.specs.Prelude.{◌≡◌, ℕ, ◌<◌, true, if◌then◌else◌
 use Rattle.flex_base.specs.Word.{is_multiple}
 use Rattle.flex_base.specs.Place.{in_ram}
 use Rattle.flex_base.specs.Forms.{IsWidth, IsAtomicWidth}
-use Rattle.flex_base.specs.FlatMemory.{Done, left_by, value_at, granule, reserved_by, is_reserved, reply_with}
+use Rattle.flex_base.specs.FlatMemory.{Done, left_by, value_at, reservation_set, reserved_by, is_reserved, reply_with}
 use Rattle.flex_base.specs.declared.access.Access.{Access}
 use Rattle.flex_base.specs.declared.access.Access.TheVariants as acc
 use Rattle.flex_base.specs.declared.access.Reply.{Reply}
@@ -40,7 +40,7 @@ reply_of b hart (acc.Pte address) = value_of b address 8
 reply_of b hart (acc.Read address width) = value_of b address width
 reply_of b hart (acc.Lr address width) = value_of b address width
 reply_of b hart (acc.Amo op address width value) = value_of b address width
-reply_of b hart (acc.Sc address width value) = reply_with (if is_reserved (reserved b hart) (granule address) then 0 else 1)
+reply_of b hart (acc.Sc address width value) = reply_with (if is_reserved (reserved b hart) (reservation_set address) then 0 else 1)
 reply_of b hart other = reply_with 0
 
 -- what an access leaves of a bank

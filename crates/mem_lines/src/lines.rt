@@ -5,8 +5,8 @@ ghost use Rattle.flex_base.specs.Loaded.{image_fits};
 ghost use Rattle.flex_base.specs.Place.{ram_base};
 ghost use Rattle.flex_base.specs.Setup.{Setup};
 ghost use Rattle.flex_base.specs.Forms.{HasForm};
-ghost use Rattle.flex_base.specs.Unsplit.{noted};
-ghost use Rattle.flex_base.specs.FlatMemory.{Done, byte, flat, value_at, put, broken, granule, is_reserved};
+ghost use Rattle.flex_base.specs.Unsplit.{with_access};
+ghost use Rattle.flex_base.specs.FlatMemory.{Done, byte, flat, value_at, put, broken, reservation_set, is_reserved};
 ghost use Rattle.mem_lines.specs.Bank.{is_bank_count, spot, held, reserved, IsIn, IsReplay, IsBank, IsSame};
 ghost use Rattle.mem_lines.specs.Steps.{done, IsSpan, IsHere, Follows, reply_of};
 
@@ -14,7 +14,7 @@ use crate::image_bytes::bank_bytes;
 use crate::little_endian::{load, store};
 use crate::reservations::Reservations;
 use crate::spots::spot;
-use flex_base::{Access, AmoOp, HartId, Image, Reply, Settings, granule};
+use flex_base::{Access, AmoOp, HartId, Image, Reply, Settings, reservation_set};
 use rv_alu::amo;
 use std::alloc::{AllocError, Global};
 use std::marker::Model;
@@ -83,7 +83,7 @@ impl Lines {
         requires hart { hart.0 < 32 }
         requires here { IsHere self.old acc.now }
         ensures flat { (setup : Setup) (made : List Done) → IsReplay setup made self.old → result ≡ flat setup.image made hart.0 acc.now }
-        ensures replay { (setup : Setup) (made : List Done) → IsReplay setup made self.old → IsReplay setup (noted made hart.0 acc.now result) self.new }
+        ensures replay { (setup : Setup) (made : List Done) → IsReplay setup made self.old → IsReplay setup (with_access made hart.0 acc.now result) self.new }
         ensures form { HasForm acc.now result }
         ensures same { IsSame self.old self.new }
     {
@@ -158,16 +158,16 @@ impl Lines {
         ensures follows { Follows (done hart acc.now result) self.old self.new }
     {
         match *acc {
-            Access::Fetch { address } => Reply::told(self.value(address, 4)),
-            Access::Pte { address } => Reply::told(self.value(address, 8)),
-            Access::Read { address, width } => Reply::told(self.value(address, width)),
+            Access::Fetch { address } => Reply::with_value(self.value(address, 4)),
+            Access::Pte { address } => Reply::with_value(self.value(address, 8)),
+            Access::Read { address, width } => Reply::with_value(self.value(address, width)),
             Access::Write {
                 address,
                 width,
                 value,
             } => {
                 self.write(hart, address, width, value);
-                Reply::told(0)
+                Reply::with_value(0)
             }
             Access::Lr { address, width } => self.load_reserved(hart, address, width),
             Access::Sc {
@@ -181,8 +181,8 @@ impl Lines {
                 width,
                 value,
             } => self.modify(hart, op, address, width, value),
-            Access::DevRead { .. } | Access::DevWrite { .. } | Access::Time => Reply::told(0),
-            Access::Pulse { .. } | Access::Wait { .. } | Access::Retire => Reply::told(0),
+            Access::DevRead { .. } | Access::DevWrite { .. } | Access::Time => Reply::with_value(0),
+            Access::Pulse { .. } | Access::Wait { .. } | Access::Retire => Reply::with_value(0),
         }
     }
 
@@ -194,8 +194,8 @@ impl Lines {
         ensures follows { Follows (done hart (Access.Lr address width) result) self.old self.new }
     {
         let value = self.value(address, width);
-        self.reserve(hart, granule(address));
-        Reply::told(value)
+        self.reserve(hart, reservation_set(address));
+        Reply::with_value(value)
     }
 
     fn store_conditional(&mut self, hart: u8, address: u64, width: u8, value: u64) -> Reply
@@ -209,9 +209,9 @@ impl Lines {
         self.release(hart);
         if reserved {
             self.write(hart, address, width, value);
-            Reply::told(0)
+            Reply::with_value(0)
         } else {
-            Reply::told(1)
+            Reply::with_value(1)
         }
     }
 
@@ -225,17 +225,17 @@ impl Lines {
     {
         let old = self.value(address, width);
         self.write(hart, address, width, amo(op, old, value, width));
-        Reply::told(old)
+        Reply::with_value(old)
     }
 
     // Sets what a hart has reserved.
-    fn reserve(&mut self, hart: u8, granule: u64)
+    fn reserve(&mut self, hart: u8, reservation_set: u64)
         requires hart { hart < 32 }
         ensures same { IsSame self.old self.new }
         ensures each { (a : ℕ) → held self.new a ≡ held self.old a }
-        ensures reservations { (h : ℕ) → reserved self.new h ≡ (if h == hart then Some granule else reserved self.old h) }
+        ensures reservations { (h : ℕ) → reserved self.new h ≡ (if h == hart then Some reservation_set else reserved self.old h) }
     {
-        self.reservations.reserve(hart, granule);
+        self.reservations.reserve(hart, reservation_set);
     }
 
     // Ends a hart's reservation.
@@ -251,9 +251,9 @@ impl Lines {
     // Whether a hart's reservation of the 8 bytes of this address stands.
     fn has_reserved(&self, hart: u8, address: u64) -> bool
         requires hart { hart < 32 }
-        ensures { result ≡ is_reserved (reserved self.now hart) (granule address) }
+        ensures { result ≡ is_reserved (reserved self.now hart) (reservation_set address) }
     {
-        self.reservations.stands(hart, granule(address))
+        self.reservations.stands(hart, reservation_set(address))
     }
 }
 

@@ -17,7 +17,7 @@ returns-in-Lr-clause-sound c = λ layout was.
     let Asked : Access → Type 0 = λ x. Reaches layout x in
     let reaches : Reaches layout (acc.Lr c.in-Lr.address c.in-Lr.width) = subst Asked c.in-Lr.is was.reaches in
     let Kept : ℕ → Type 0 = λ g. KeepsReservation layout c.args.hart.now (Some g) in
-    c.reserved.ensures.sound layout (subst Kept (sym c.granule.ensures) (λ whole own. granule_reserved layout.ram c.in-Lr.address c.in-Lr.width whole reaches.0 reaches.1.1))
+    c.reserved.ensures.sound layout (subst Kept (sym c.reservation_set.ensures) (λ whole own. granule_reserved layout.ram c.in-Lr.address c.in-Lr.width whole reaches.0 reaches.1.1))
 
 pub returns-in-Sc-clause-sound : goal.returns-in-Sc-clause-sound
 returns-in-Sc-clause-sound c = λ layout was. c.concluded.ensures.sound layout
