@@ -10,7 +10,7 @@ use Rattle.flex_base.specs.Place.{in_ram, place_of}
 use Rattle.flex_base.specs.Word.{wrap, is_multiple}
 use Rattle.flex_base.specs.Decoding.{decoded}
 use Rattle.flex_base.specs.FlatMemory.{Done, reservation_set, is_reserved, is_ram_access}
-use Rattle.flex_base.specs.Story.{Want, Asks, Ends, IsOver, IsLater, Story, Says, Closes, StaysOver, ComesLater, story, pulses, fetches, works, jumps, branches, is_taken, traps, at_place, reaches, reaches_ram, is_tick, want, concludes}
+use Rattle.flex_base.specs.Story.{Want, Asks, Ends, IsOver, IsLater, Story, Says, Closes, StaysOver, ComesLater, story, pulses, after_pulse, fetches, works, jumps, branches, is_taken, traps, at_place, reaches, reaches_ram, is_tick, want, concludes}
 use Rattle.flex_base.specs.Unsplit.{Machine, story_of, want_of, reply_to, begin, make, step, reach, reach_from, with_access}
 use Rattle.flex_base.specs.Reservations.{own_after, own_reservation, AsksReserved}
 use Rattle.flex_base.specs.declared.access.Access.{Access}
@@ -23,7 +23,7 @@ use Rattle.flex_base.specs.declared.settings.Place.{Place}
 use Rattle.flex_base.specs.declared.settings.Place.TheVariants as place
 use Rattle.flex_base.proofs.Machines.{instruction_at-begin, reach-cons, reach-none, step_is, instruction_after_end, instruction_at-other, story_after_access, length-step, place_in}
 use Rattle.flex_base.proofs.Standing.{AllStand, all_step, all_begin}
-use Rattle.flex_base.proofs.Stories.{retires, goes_on, after_pulse}
+use Rattle.flex_base.proofs.Stories.{retires, goes_on}
 
 -- The story of an instruction.
 

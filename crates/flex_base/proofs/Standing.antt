@@ -12,7 +12,7 @@ use Rattle.flex_base.specs.Word.{wrap, is_multiple}
 use Rattle.flex_base.specs.Causes.{instruction_access_fault, load_address_misaligned, load_access_fault, store_address_misaligned, store_access_fault}
 use Rattle.flex_base.specs.Decoding.{decoded}
 use Rattle.flex_base.specs.FlatMemory.{Done, flat, reply_with, is_ram_access, is_reserved, reservation_set}
-use Rattle.flex_base.specs.Story.{Want, Asks, Ends, IsOver, IsLater, Story, Says, Closes, StaysOver, ComesLater, pulses, fetches, works, jumps, branches, is_taken, traps, at_place, reaches, reaches_ram, is_tick, want}
+use Rattle.flex_base.specs.Story.{Want, Asks, Ends, IsOver, IsLater, Story, Says, Closes, StaysOver, ComesLater, pulses, after_pulse, fetches, works, jumps, branches, is_taken, traps, at_place, reaches, reaches_ram, is_tick, want}
 use Rattle.flex_base.specs.Unsplit.{Machine, Instruction, Made, instruction_from, instruction_at, story_of, want_of, reply_to, begin, make, with_access, does, step, reach, reach_from}
 use Rattle.flex_base.specs.DevicesSoFar.{is_retire, is_spent}
 use Rattle.flex_base.specs.Rounds.{most_events}
@@ -27,7 +27,7 @@ use Rattle.flex_base.specs.declared.operation.Op.TheVariants as op
 use Rattle.flex_base.specs.declared.settings.Place.{Place}
 use Rattle.flex_base.specs.declared.settings.Place.TheVariants as place
 use Rattle.flex_base.proofs.Machines.{instruction_at-begin, Stays, Adds, step_steps, reach-cons, reach-none, step_is, instruction_after_access, story_after_access, instruction_after_end, instruction_at-other, length-step, place_in}
-use Rattle.flex_base.proofs.Stories.{retires, goes_on, after_pulse, story_spent, story_unspent}
+use Rattle.flex_base.proofs.Stories.{retires, goes_on, story_spent, story_unspent}
 
 -- An instruction makes few events, and leaves its hart over by a reply with the stop alone.
 

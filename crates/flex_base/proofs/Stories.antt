@@ -6,7 +6,7 @@ use Rattle.flex_base.specs.State.{State}
 use Rattle.flex_base.specs.Place.{in_ram}
 use Rattle.flex_base.specs.Causes.{instruction_access_fault}
 use Rattle.flex_base.specs.Decoding.{decoded}
-use Rattle.flex_base.specs.Story.{Want, Asks, Ends, IsOver, IsLater, Story, Says, Closes, StaysOver, ComesLater, story, pulses, fetches, works, traps, is_tick, goes, want, ask, after_one}
+use Rattle.flex_base.specs.Story.{Want, Asks, Ends, IsOver, IsLater, Story, Says, Closes, StaysOver, ComesLater, story, pulses, after_pulse, fetches, works, traps, is_tick, goes, want, ask, after_one}
 use Rattle.flex_base.specs.declared.access.Access.TheVariants as acc
 use Rattle.flex_base.specs.declared.access.Reply.{Reply}
 use Rattle.flex_base.specs.declared.event.EndPart.{EndPart}
@@ -33,9 +33,6 @@ retires = Says acc.Retire (λ reply. StaysOver)
 
 abbrev pub goes_on : Setup → State → Story
 goes_on setup a = Says (acc.Fetch a.pc) (λ reply. works setup a (decoded reply.value))
-
-abbrev pub after_pulse : Setup → State → Reply → Story
-after_pulse setup a reply = if reply.stop then StaysOver else fetches setup (record a { lines = reply.lines })
 
 pub story_spent : (setup : Setup) (a : State) → a.ends ≡ setup.budget → story setup a ≡ retires
 story_spent setup a spent = ap (λ b. if b then retires else pulses setup a) (eq-eqb a.ends setup.budget spent)

@@ -18,8 +18,7 @@ pub record TellsLines (reply : Reply) : Type 0 where
   pub value : reply.value < 2
   pub lines : reply.lines < 2 ^ 64
 
--- the form of a reply: what the access doesn't use is 0 and false, and what was read is zero-extended. While no device is
--- built, a pulse tells nothing
+-- the form of a reply: what the access doesn't use is 0 and false, and what was read is zero-extended
 abbrev pub HasForm : Access → Reply → Type 0
 HasForm (acc.Fetch address) reply = TellsValue 32 reply
 HasForm (acc.Pte address) reply = TellsValue 64 reply
@@ -30,7 +29,7 @@ HasForm (acc.Sc address width value) reply = TellsValue 1 reply
 HasForm (acc.Amo op address width value) reply = TellsValue (8 * width) reply
 HasForm (acc.DevRead address width) reply = TellsValue (8 * width) reply
 HasForm (acc.DevWrite address width value) reply = TellsValue 0 reply
-HasForm (acc.Pulse tick) reply = TellsValue 0 reply
+HasForm (acc.Pulse tick) reply = TellsLines reply
 HasForm (acc.Wait mie) reply = TellsLines reply
 HasForm acc.Retire reply = TellsValue 0 reply
 HasForm acc.Time reply = TellsValue 64 reply

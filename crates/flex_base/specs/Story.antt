@@ -187,12 +187,13 @@ module _ (setup : Setup) where
       then Says (acc.Fetch a.pc) (λ reply. works a (decoded reply.value))
       else traps a instruction_access_fault a.pc
 
-  -- the pulse, where one is due; its lines count from here on
+  -- a pulse tells the lines, which count from here on, or that the run is to stop
+  abbrev pub after_pulse : State → Reply → Story
+  after_pulse a reply = if reply.stop then StaysOver else fetches (record a { lines = reply.lines })
+
+  -- the pulse, where one is due
   abbrev pub pulses : State → Story
-  pulses a = if a.due
-      then Says (acc.Pulse (is_tick a)) (λ reply.
-          if reply.stop then StaysOver else fetches (record a { lines = reply.lines }))
-      else fetches a
+  pulses a = if a.due then Says (acc.Pulse (is_tick a)) (after_pulse a) else fetches a
 
   -- the whole instruction; a hart that has spent its budget retires
   abbrev pub story : State → Story

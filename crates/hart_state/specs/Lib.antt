@@ -1,1 +1,1 @@
-pub mod StateOf
+pub mod AreRegsOf
