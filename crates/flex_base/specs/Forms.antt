@@ -47,17 +47,24 @@ IsWidth width = (width == 1) || (width == 2) || (width == 4) || (width == 8) ≡
 abbrev pub IsAtomicWidth : ℕ → Type 0
 IsAtomicWidth width = (width == 4) || (width == 8) ≡ true
 
--- Where each kind of access may stand, in a run of so many harts and so much RAM in bytes: an instruction's 4 bytes, an
--- entry's 8 bytes, and loads, stores and atomic operations of their widths stand aligned in RAM; a device register is
--- accessed where it stands. The others have no address.
+-- where an access of RAM may stand, in so much RAM in bytes: an instruction's 4 bytes, an entry's 8 bytes, and loads, stores
+-- and atomic operations of their widths, all of them aligned
+abbrev pub IsInRam : ℕ → Access → Type 0
+IsInRam ram (acc.Fetch address) = IsAlignedRam ram address 4
+IsInRam ram (acc.Pte address) = IsAlignedRam ram address 8
+IsInRam ram (acc.Read address width) = IsWidth width × IsAlignedRam ram address width
+IsInRam ram (acc.Write address width value) = IsWidth width × IsAlignedRam ram address width
+IsInRam ram (acc.Lr address width) = IsAtomicWidth width × IsAlignedRam ram address width
+IsInRam ram (acc.Sc address width value) = IsAtomicWidth width × IsAlignedRam ram address width
+IsInRam ram (acc.Amo op address width value) = IsAtomicWidth width × IsAlignedRam ram address width
+IsInRam ram other = ⊥
+
+-- where each kind of access may stand, among so many harts' device registers too
 abbrev pub IsPlaced : ℕ → ℕ → Access → Type 0
-IsPlaced harts ram (acc.Fetch address) = IsAlignedRam ram address 4
-IsPlaced harts ram (acc.Pte address) = IsAlignedRam ram address 8
-IsPlaced harts ram (acc.Read address width) = IsWidth width × IsAlignedRam ram address width
-IsPlaced harts ram (acc.Write address width value) = IsWidth width × IsAlignedRam ram address width
-IsPlaced harts ram (acc.Lr address width) = IsAtomicWidth width × IsAlignedRam ram address width
-IsPlaced harts ram (acc.Sc address width value) = IsAtomicWidth width × IsAlignedRam ram address width
-IsPlaced harts ram (acc.Amo op address width value) = IsAtomicWidth width × IsAlignedRam ram address width
 IsPlaced harts ram (acc.DevRead address width) = place_of harts ram address width ≡ place.Device
 IsPlaced harts ram (acc.DevWrite address width value) = place_of harts ram address width ≡ place.Device
-IsPlaced harts ram other = Unit {0}
+IsPlaced harts ram (acc.Pulse tick) = Unit {0}
+IsPlaced harts ram (acc.Wait mie) = Unit {0}
+IsPlaced harts ram acc.Retire = Unit {0}
+IsPlaced harts ram acc.Time = Unit {0}
+IsPlaced harts ram access = IsInRam ram access

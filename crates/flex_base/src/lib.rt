@@ -24,7 +24,7 @@ mod settings;
 mod steady_outer;
 mod text;
 
-pub use access::{Access, Reply, access_class};
+pub use access::{Access, Reply, access_class, is_ram};
 pub use class::{Class, capable};
 pub use engine::Engine;
 pub use event::{EndPart, Event, Stop, What};
