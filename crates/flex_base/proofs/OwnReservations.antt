@@ -10,9 +10,9 @@ use Rattle.flex_base.specs.Place.{in_ram, place_of}
 use Rattle.flex_base.specs.Word.{wrap, is_multiple}
 use Rattle.flex_base.specs.Decoding.{decoded}
 use Rattle.flex_base.specs.FlatMemory.{Done, reservation_set, is_reserved, is_ram_access}
-use Rattle.flex_base.specs.Story.{Want, Asks, Ends, IsOver, IsLater, Story, Says, Closes, StaysOver, ComesLater, story, pulses, after_pulse, fetches, works, jumps, branches, is_taken, traps, at_place, reaches, reaches_ram, is_tick, want, concludes}
+use Rattle.flex_base.specs.Story.{Want, Asks, Ends, IsOver, IsLater, Story, Says, Closes, StaysOver, ComesLater, story, pulses, after_pulse, fetches, works, jumps, branches, is_taken, traps, at_place, reaches, reaches_ram, is_tick, goes, want, concludes}
 use Rattle.flex_base.specs.Unsplit.{Machine, story_of, want_of, reply_to, begin, make, step, reach, reach_from, with_access}
-use Rattle.flex_base.specs.Reservations.{own_after, own_reservation, AsksReserved}
+use Rattle.flex_base.specs.Reservations.{reserving, own_after, own_reservation, IsOwn, accesses_in, AsksReserved}
 use Rattle.flex_base.specs.declared.access.Access.{Access}
 use Rattle.flex_base.specs.declared.access.Access.TheVariants as acc
 use Rattle.flex_base.specs.declared.access.Reply.{Reply}
@@ -27,36 +27,29 @@ use Rattle.flex_base.proofs.Stories.{retires, goes_on}
 
 -- The story of an instruction.
 
--- where this is a reservation, it is the hart's own
-abbrev pub IsOwn : Option ℕ → Option ℕ → Type 0
-IsOwn own reservation = (set : ℕ) → reservation ≡ Some set → own ≡ Some set
-
-abbrev AsksFrom : Option ℕ → Access → Type 0
+abbrev pub AsksFrom : Option ℕ → Access → Type 0
 AsksFrom own (acc.Sc address width value) = own ≡ Some (reservation_set address)
 AsksFrom own other = Unit {0}
 
 -- from here on a store-conditional is asked only within the hart's own reservation, which is this one so far, and an end
 -- leaves no other one
-abbrev Reserves : ℕ → Option ℕ → Story → Type 0
-Reserves h own (Says access next) = AsksFrom own access × ((reply : Reply) → Reserves h (own_after h own h access) (next reply))
-Reserves h own (Closes part after) = IsOwn own after.reservation
-Reserves h own StaysOver = Unit {0}
-Reserves h own ComesLater = Unit {0}
+abbrev pub Reserves : Option ℕ → Story → Type 0
+Reserves own (Says access next) = AsksFrom own access × ((reply : Reply) → Reserves (reserving own access) (next reply))
+Reserves own (Closes part after) = IsOwn own after.reservation
+Reserves own StaysOver = Unit {0}
+Reserves own ComesLater = Unit {0}
 
-either : (h : ℕ) (own : Option ℕ) (b : Bool) (s t : Story) → Reserves h own s → Reserves h own t → Reserves h own (if b then s else t)
-either h own true s t first second = first
-either h own false s t first second = second
+either : (own : Option ℕ) (b : Bool) (s t : Story) → Reserves own s → Reserves own t → Reserves own (if b then s else t)
+either own true s t first second = first
+either own false s t first second = second
 
-at_place_reserves : (h : ℕ) (own : Option ℕ) (p : Place) (access fault : Story) → Reserves h own access → Reserves h own fault
-    → Reserves h own (at_place p access fault)
-at_place_reserves h own place.Ram access fault first second = first
-at_place_reserves h own place.Device access fault first second = tt
-at_place_reserves h own place.Nowhere access fault first second = second
+at_place_reserves : (own : Option ℕ) (p : Place) (access fault : Story) → Reserves own access → Reserves own fault
+    → Reserves own (at_place p access fault)
+at_place_reserves own place.Ram access fault first second = first
+at_place_reserves own place.Device access fault first second = tt
+at_place_reserves own place.Nowhere access fault first second = second
 
--- a load-reserved makes its set the hart's own reservation, and a store-conditional leaves none
-own_load : (h : ℕ) (own : Option ℕ) (address width : ℕ) → own_after h own h (acc.Lr address width) ≡ Some (reservation_set address)
-own_load h own address width = ap (λ b. if b then Some (reservation_set address) else own) (eq-eqb h h refl)
-
+-- no reservation is anybody's
 none_own : (own : Option ℕ) → IsOwn own None
 none_own own = λ set e. absurd cc
 
@@ -65,32 +58,32 @@ reserved_is : (own : Option ℕ) (set : ℕ) → is_reserved own set ≡ true �
 reserved_is None set e = absurd cc
 reserved_is (Some other) set e = let same : other ≡ set = grind (arith, nat_tests, e) in ap Some same
 
-module _ (setup : Setup) (h : ℕ) (own : Option ℕ) (a : State) (held : IsOwn own a.reservation) where
-  reaches_reserves : (address width misaligned fault : ℕ) (access : Story) → Reserves h own access
-      → Reserves h own (reaches setup a address width misaligned fault access)
+module _ (setup : Setup) (own : Option ℕ) (a : State) (held : IsOwn own a.reservation) where
+  reaches_reserves : (address width misaligned fault : ℕ) (access : Story) → Reserves own access
+      → Reserves own (reaches setup a address width misaligned fault access)
   reaches_reserves address width misaligned fault access reserves =
-      either h own (is_multiple address width) _ _
-      (at_place_reserves h own (place_of setup.harts setup.ram address width) access (traps a fault address) reserves tt) tt
+      either own (is_multiple address width) _ _
+      (at_place_reserves own (place_of setup.harts setup.ram address width) access (traps a fault address) reserves tt) tt
 
-  reaches_ram_reserves : (address width misaligned fault : ℕ) (access : Story) → Reserves h own access
-      → Reserves h own (reaches_ram setup a address width misaligned fault access)
+  reaches_ram_reserves : (address width misaligned fault : ℕ) (access : Story) → Reserves own access
+      → Reserves own (reaches_ram setup a address width misaligned fault access)
   reaches_ram_reserves address width misaligned fault access reserves =
-      either h own (is_multiple address width) _ _
-      (either h own (in_ram setup.ram address width) access (traps a fault address) reserves tt) tt
+      either own (is_multiple address width) _ _
+      (either own (in_ram setup.ram address width) access (traps a fault address) reserves tt) tt
 
-  jumps_reserves : (target rd : ℕ) → Reserves h own (jumps a target rd)
-  jumps_reserves target rd = either h own (is_multiple target 4) _ _ held tt
+  jumps_reserves : (target rd : ℕ) → Reserves own (jumps a target rd)
+  jumps_reserves target rd = either own (is_multiple target 4) _ _ held tt
 
-  branches_reserves : (taken : Bool) (target : ℕ) → Reserves h own (branches a taken target)
-  branches_reserves taken target = either h own taken _ _ (jumps_reserves target 0) held
+  branches_reserves : (taken : Bool) (target : ℕ) → Reserves own (branches a taken target)
+  branches_reserves taken target = either own taken _ _ (jumps_reserves target 0) held
 
   conditional : (rd address width value : ℕ) (b : Bool) → is_reserved a.reservation (reservation_set address) ≡ b
-      → Reserves h own (if b then Says (acc.Sc address width value) (λ reply. concludes a rd reply.value) else concludes a rd 1)
+      → Reserves own (if b then Says (acc.Sc address width value) (λ reply. concludes a rd reply.value) else concludes a rd 1)
   conditional rd address width value true e =
       (held (reservation_set address) (reserved_is a.reservation (reservation_set address) e), λ reply. none_own _)
   conditional rd address width value false e = none_own own
 
-  works_reserves : (o : Op) → Reserves h own (works setup a o)
+  works_reserves : (o : Op) → Reserves own (works setup a o)
   works_reserves (op.Lui rd imm) = held
   works_reserves (op.Auipc rd imm) = held
   works_reserves (op.AluImm does rd rs1 imm) = held
@@ -106,7 +99,7 @@ module _ (setup : Setup) (h : ℕ) (own : Option ℕ) (a : State) (held : IsOwn 
       reaches_reserves _ width store_address_misaligned store_access_fault _ (tt, λ reply. held)
   works_reserves (op.Lr width rd rs1 aq rl) =
       reaches_ram_reserves _ width load_address_misaligned load_access_fault _
-      (tt, λ reply set e. own_load h own (reg a.x rs1) width ∙ e)
+      (tt, λ reply set e. e)
   works_reserves (op.Sc width rd rs1 rs2 aq rl) =
       reaches_ram_reserves _ width store_address_misaligned store_access_fault _
       (conditional rd (reg a.x rs1) width _ (is_reserved a.reservation (reservation_set (reg a.x rs1))) refl)
@@ -116,41 +109,65 @@ module _ (setup : Setup) (h : ℕ) (own : Option ℕ) (a : State) (held : IsOwn 
   works_reserves (op.FenceI free) = held
   works_reserves other = tt
 
-  fetches_reserves : Reserves h own (fetches setup a)
+  fetches_reserves : Reserves own (fetches setup a)
   fetches_reserves =
-      either h own (in_ram setup.ram a.pc 4) (goes_on setup a) (traps a instruction_access_fault a.pc)
+      either own (in_ram setup.ram a.pc 4) (goes_on setup a) (traps a instruction_access_fault a.pc)
       (tt, λ reply. works_reserves (decoded reply.value)) tt
 
-pulses_reserves : (setup : Setup) (h : ℕ) (own : Option ℕ) (a : State) → IsOwn own a.reservation → Reserves h own (pulses setup a)
-pulses_reserves setup h own a held =
-    either h own a.due (Says (acc.Pulse (is_tick a)) (after_pulse setup a)) (fetches setup a)
-    (tt, λ reply. either h own reply.stop StaysOver _ tt (fetches_reserves setup h own (record a { lines = reply.lines }) held))
-    (fetches_reserves setup h own a held)
+pulses_reserves : (setup : Setup) (own : Option ℕ) (a : State) → IsOwn own a.reservation → Reserves own (pulses setup a)
+pulses_reserves setup own a held =
+    either own a.due (Says (acc.Pulse (is_tick a)) (after_pulse setup a)) (fetches setup a)
+    (tt, λ reply. either own reply.stop StaysOver _ tt (fetches_reserves setup own (record a { lines = reply.lines }) held))
+    (fetches_reserves setup own a held)
 
-story_reserves : (setup : Setup) (h : ℕ) (own : Option ℕ) (a : State) → IsOwn own a.reservation → Reserves h own (story setup a)
-story_reserves setup h own a held =
-    either h own (a.ends == setup.budget) retires (pulses setup a) (tt, λ reply. tt) (pulses_reserves setup h own a held)
+pub story_reserves : (setup : Setup) (own : Option ℕ) (a : State) → IsOwn own a.reservation → Reserves own (story setup a)
+story_reserves setup own a held =
+    either own (a.ends == setup.budget) retires (pulses setup a) (tt, λ reply. tt) (pulses_reserves setup own a held)
+
+-- at the end of an instruction the hart's reservation is what its own accesses lead to, or none
+pub ends_own : (own : Option ℕ) (s : Story) (replies : List Reply) (part : EndPart) (after : State) → Reserves own s
+    → want (goes s replies) ≡ Ends part after → IsOwn (fold reserving own (accesses_in s replies)) after.reservation
+ends_own own (Says access next) [] part after reserves ends = absurd cc
+ends_own own (Says access next) (reply ∷ replies) part after reserves ends =
+    ends_own (reserving own access) (next reply) replies part after (reserves.1 reply) ends
+ends_own own (Closes made left) [] part after reserves ends =
+    let same : left ≡ after = cc in
+    let At : State → Type 0 = λ a. IsOwn own a.reservation in
+    subst At same reserves
+ends_own own (Closes made left) (reply ∷ replies) part after reserves ends =
+    let same : left ≡ after = cc in
+    let At : State → Type 0 = λ a. IsOwn own a.reservation in
+    subst At same reserves
+ends_own own StaysOver [] part after reserves ends = absurd cc
+ends_own own StaysOver (reply ∷ replies) part after reserves ends = absurd cc
+ends_own own ComesLater [] part after reserves ends = absurd cc
+ends_own own ComesLater (reply ∷ replies) part after reserves ends = absurd cc
 
 -- All harts, along an order.
 
 -- each hart is where its own reservation leads
 abbrev AllReserve : Setup → Machine → Type 0
-AllReserve setup u = (h : ℕ) → h < setup.harts → Reserves h (own_reservation u.ram h) (story_of setup u h)
+AllReserve setup u = (h : ℕ) → h < setup.harts → Reserves (own_reservation u.ram h) (story_of setup u h)
 
 own_push : (made : List Done) (h k : ℕ) (access : Access) (reply : Reply)
     → own_reservation (with_access made k access reply) h ≡ own_after h (own_reservation made h) k access
 own_push made h k access reply = fold_push (λ old (d : Done). own_after h old d.hart d.access) None made _
 
+own_same : (h : ℕ) (own : Option ℕ) (access : Access) → own_after h own h access ≡ reserving own access
+own_same h own access = ap (λ b. if b then reserving own access else own) (eq-eqb h h refl)
+
 -- another hart's access, and one of no RAM, leave it
 own_other : (h k : ℕ) (own : Option ℕ) (access : Access) → h ≢ k → own_after h own k access ≡ own
-own_other h k own (acc.Lr address width) other = ap (λ b. if b then Some (reservation_set address) else own) (ne_eqb h k other)
-own_other h k own (acc.Sc address width value) other = ap (λ b. if b then None else own) (ne_eqb h k other)
-own_other h k own access other = refl
+own_other h k own access other = ap (λ b. if b then reserving own access else own) (ne_eqb h k other)
+
+no_ram : (own : Option ℕ) (access : Access) → is_ram_access access ≡ false → reserving own access ≡ own
+no_ram own (acc.Lr address width) e = absurd cc
+no_ram own (acc.Sc address width value) e = absurd cc
+no_ram own other e = refl
 
 own_elsewhere : (h k : ℕ) (own : Option ℕ) (access : Access) → is_ram_access access ≡ false → own_after h own k access ≡ own
-own_elsewhere h k own (acc.Lr address width) e = absurd cc
-own_elsewhere h k own (acc.Sc address width value) e = absurd cc
-own_elsewhere h k own access e = refl
+own_elsewhere h k own access e = elim (h == k) as (λ b. (if b then reserving own access else own) ≡ own)
+    [ true ↦ no_ram own access e | false ↦ refl ]
 
 own_made : (made : List Done) (h k : ℕ) (access : Access) (reply : Reply) (b : Bool) → is_ram_access access ≡ b
     → own_reservation (if b then with_access made k access reply else made) h ≡ own_after h (own_reservation made h) k access
@@ -172,21 +189,21 @@ other_step setup u h k other =
 
 -- where a hart is, by its own reservation and its story
 reserves_at : (setup : Setup) (u : Machine) (h : ℕ) (own : Option ℕ) (s : Story) → own_reservation u.ram h ≡ own → story_of setup u h ≡ s
-    → Reserves h own s → Reserves h (own_reservation u.ram h) (story_of setup u h)
+    → Reserves own s → Reserves (own_reservation u.ram h) (story_of setup u h)
 reserves_at setup u h own s same is reserves =
-    let By : Option ℕ → Type 0 = λ o. Reserves h o s in
-    let In : Story → Type 0 = λ t. Reserves h (own_reservation u.ram h) t in
+    let By : Option ℕ → Type 0 = λ o. Reserves o s in
+    let In : Story → Type 0 = λ t. Reserves (own_reservation u.ram h) t in
     subst In (sym is) (subst By (sym same) reserves)
 
 -- the hart's own step
 own_step : (setup : Setup) (u : Machine) (h : ℕ) (s : Story) → h < setup.harts → h < length u.harts → story_of setup u h ≡ s
-    → Reserves h (own_reservation u.ram h) s → Reserves h (own_reservation (step setup u h).ram h) (story_of setup (step setup u h) h)
+    → Reserves (own_reservation u.ram h) s → Reserves (own_reservation (step setup u h).ram h) (story_of setup (step setup u h) h)
 own_step setup u h (Says access next) below within says reserves =
     let reply = reply_to setup u h access in
     let own = own_reservation u.ram h in
-    reserves_at setup (step setup u h) h (own_after h own h access) (next reply)
+    reserves_at setup (step setup u h) h (reserving own access) (next reply)
     (ap (λ (m : Machine). own_reservation m.ram h) (step_is setup u h (Asks access) below (ap want says))
-    ∙ own_made u.ram h h access reply (is_ram_access access) refl)
+    ∙ (own_made u.ram h h access reply (is_ram_access access) refl ∙ own_same h own access))
     (story_after_access setup u h access next below within says)
     (reserves.1 reply)
 own_step setup u h (Closes part after) below within closes reserves =
@@ -194,22 +211,22 @@ own_step setup u h (Closes part after) below within closes reserves =
     reserves_at setup (step setup u h) h own (story setup after)
     (ap (λ (m : Machine). own_reservation m.ram h) (step_is setup u h (Ends part after) below (ap want closes)))
     (ap (place_in setup) (instruction_after_end setup u h part after below within (ap want closes)))
-    (story_reserves setup h own after reserves)
+    (story_reserves setup own after reserves)
 own_step setup u h StaysOver below within over reserves =
     let still : u ≡ step setup u h = sym (step_is setup u h IsOver below (ap want over)) in
-    let At : Machine → Type 0 = λ m. Reserves h (own_reservation m.ram h) (story_of setup m h) in
-    let In : Story → Type 0 = λ s. Reserves h (own_reservation u.ram h) s in
+    let At : Machine → Type 0 = λ m. Reserves (own_reservation m.ram h) (story_of setup m h) in
+    let In : Story → Type 0 = λ s. Reserves (own_reservation u.ram h) s in
     subst At still (subst In (sym over) reserves)
 own_step setup u h ComesLater below within later reserves =
     let still : u ≡ step setup u h = sym (step_is setup u h IsLater below (ap want later)) in
-    let At : Machine → Type 0 = λ m. Reserves h (own_reservation m.ram h) (story_of setup m h) in
-    let In : Story → Type 0 = λ s. Reserves h (own_reservation u.ram h) s in
+    let At : Machine → Type 0 = λ m. Reserves (own_reservation m.ram h) (story_of setup m h) in
+    let In : Story → Type 0 = λ s. Reserves (own_reservation u.ram h) s in
     subst At still (subst In (sym later) reserves)
 
 step_reserves : (setup : Setup) (u : Machine) (k : ℕ) → AllStand setup u → AllReserve setup u → AllReserve setup (step setup u k)
 step_reserves setup u k stand all = λ h below. elim (cases_eq h k) [
   | inl same ↦
-      let At : ℕ → Type 0 = λ j. Reserves h (own_reservation (step setup u j).ram h) (story_of setup (step setup u j) h) in
+      let At : ℕ → Type 0 = λ j. Reserves (own_reservation (step setup u j).ram h) (story_of setup (step setup u j) h) in
       subst At same (own_step setup u h (story_of setup u h) below (omega (arith, below, stand.harts)) refl (all h below))
   | inr other ↦
       reserves_at setup (step setup u k) h (own_reservation u.ram h) (story_of setup u h) (other_step setup u h k other)
@@ -219,7 +236,7 @@ step_reserves setup u k stand all = λ h below. elim (cases_eq h k) [
 begin_reserves : (setup : Setup) → AllReserve setup (begin setup)
 begin_reserves setup = λ h below.
     reserves_at setup (begin setup) h None (story setup (start h setup.image.entry)) refl
-    (ap (place_in setup) (instruction_at-begin setup h below)) (story_reserves setup h None (start h setup.image.entry) (none_own None))
+    (ap (place_in setup) (instruction_at-begin setup h below)) (story_reserves setup None (start h setup.image.entry) (none_own None))
 
 from_reserves : (setup : Setup) (u : Machine) (order : List ℕ) → AllStand setup u → AllReserve setup u → AllReserve setup (reach_from setup u order)
 from_reserves setup u [] stand all =
@@ -234,7 +251,7 @@ access_asks : (made : List Done) (h : ℕ) (access : Access) → AsksFrom (own_r
 access_asks made h (acc.Sc address width value) e = e
 access_asks made h other e = tt
 
-asks_reserved : (made : List Done) (h : ℕ) (s : Story) → Reserves h (own_reservation made h) s → AsksReserved made h (want s)
+asks_reserved : (made : List Done) (h : ℕ) (s : Story) → Reserves (own_reservation made h) s → AsksReserved made h (want s)
 asks_reserved made h (Says access next) reserves = access_asks made h access reserves.0
 asks_reserved made h (Closes part after) reserves = tt
 asks_reserved made h StaysOver reserves = tt

@@ -1,24 +1,38 @@
 -- Reservations by the accesses alone (Volume I, "Load-Reserved/Store-Conditional Instructions").
-use Rattle.std.specs.Prelude.{◌≡◌, ℕ, Bool, true, false, not, ◌&&◌, ◌||◌, ◌==◌, if◌then◌else◌, List, ◌∷◌, ◌++◌, fold, Option, None, Some}
+use Rattle.std.specs.Prelude.{◌≡◌, ℕ, Bool, true, false, not, ◌&&◌, ◌||◌, ◌==◌, if◌then◌else◌, List, [], ◌∷◌, ◌++◌, fold, Option, None, Some}
 use Rattle.std.specs.List.{list_all}
 use Rattle.flex_base.specs.FlatMemory.{Done, reservation_set}
-use Rattle.flex_base.specs.Story.{Want, Asks}
+use Rattle.flex_base.specs.Story.{Want, Asks, Story, Says}
 use Rattle.flex_base.specs.declared.access.Access.{Access}
 use Rattle.flex_base.specs.declared.access.Access.TheVariants as acc
 use Rattle.flex_base.specs.declared.access.Reply.{Reply}
 
 -- What the hart itself reserved.
 
--- the set of the hart's own last load-reserved, after one more access; a store-conditional of its own gives it up. Other
--- harts' accesses count for nothing
+-- the set that a hart has reserved after an access of its own: a load-reserved reserves its set, and a store-conditional
+-- gives it up
+abbrev pub reserving : Option ℕ → Access → Option ℕ
+reserving old (acc.Lr address width) = Some (reservation_set address)
+reserving old (acc.Sc address width value) = None
+reserving old other = old
+
+-- and after an access of some hart; other harts' accesses count for nothing
 abbrev pub own_after : ℕ → Option ℕ → ℕ → Access → Option ℕ
-own_after hart old by (acc.Lr address width) = if hart == by then Some (reservation_set address) else old
-own_after hart old by (acc.Sc address width value) = if hart == by then None else old
-own_after hart old by other = old
+own_after hart old by access = if hart == by then reserving old access else old
 
 -- the set of the hart's last load-reserved, where no store-conditional of its own came after it
 abbrev pub own_reservation : List Done → ℕ → Option ℕ
 own_reservation made hart = fold (λ old (d : Done). own_after hart old d.hart d.access) None made
+
+-- where this is a reservation, it is the hart's own
+abbrev pub IsOwn : Option ℕ → Option ℕ → Type 0
+IsOwn own reservation = (set : ℕ) → reservation ≡ Some set → own ≡ Some set
+
+-- the accesses to which these are the replies
+abbrev pub accesses_in : Story → List Reply → List Access
+accesses_in (Says access next) [] = []
+accesses_in (Says access next) (reply ∷ replies) = access ∷ accesses_in (next reply) replies
+accesses_in other replies = []
 
 -- a store-conditional is asked only where the hart's last load-reserved or store-conditional is a load-reserved of the same
 -- 8 bytes

@@ -1,8 +1,9 @@
 -- How far a hart in the code has come in the story of its instruction.
-use Rattle.std.specs.Prelude.{◌≡◌, ℕ, Bool, true, false}
+use Rattle.std.specs.Prelude.{◌≡◌, ℕ, Bool, true, false, Option, fold}
 use Rattle.flex_base.specs.Setup.{Setup}
 use Rattle.flex_base.specs.State.{State, IsFit}
 use Rattle.flex_base.specs.Story.{Want, Asks, Ends, Story, Closes, StaysOver, story, goes, ask, fetches}
+use Rattle.flex_base.specs.Reservations.{reserving, accesses_in}
 use Rattle.flex_base.specs.Unsplit.{Instruction}
 use Rattle.flex_base.specs.declared.access.Access.{Access}
 use Rattle.flex_base.specs.declared.event.EndPart.{EndPart}
@@ -62,6 +63,10 @@ IsAsking setup i access = want_in setup i ≡ Asks access
 -- the instruction is at this end, which leaves this state
 abbrev pub IsEnding : Setup → Instruction → EndPart → State → Type 0
 IsEnding setup i part after = want_in setup i ≡ Ends part after
+
+-- what the hart has reserved by the accesses of its instruction so far
+abbrev pub own_in : Setup → Instruction → Option ℕ
+own_in setup i = fold reserving i.state.reservation (accesses_in (story setup i.state) i.replies)
 
 -- the story closes with this end, and the hart stands for the state after it
 abbrev pub CommitsTo : Hart → EndPart → Story → Type 0

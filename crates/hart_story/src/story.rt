@@ -5,6 +5,7 @@ ghost use Rattle.flex_base.specs.Decoding.{decoded};
 ghost use Rattle.flex_base.specs.Story.{story, fetches, after_pulse, works, want, is_tick};
 ghost use Rattle.flex_base.specs.Forms.{HasForm};
 ghost use Rattle.flex_base.specs.DevicesSoFar.{is_retire};
+ghost use Rattle.flex_base.specs.Reservations.{IsOwn};
 ghost use Rattle.flex_base.specs.Unsplit.{Instruction};
 ghost use Rattle.flex_base.specs.declared.access.Access.{Access};
 ghost use Rattle.flex_base.specs.declared.event.EndPart.{EndPart};
@@ -12,7 +13,7 @@ ghost use Rattle.flex_base.specs.declared.settings.Layout.{Layout};
 ghost use Rattle.hart_story.specs.declared.hart.Hart.{Hart};
 ghost use Rattle.hart_story.specs.Need.{need_of, AsksPlaced, NeedsReserved};
 ghost use Rattle.hart_story.specs.Outcome.{IsOf, end_of, outcome_of, IsSoundOutcome};
-ghost use Rattle.hart_story.specs.Progress.{node, left, is_done, IsSoundProgress, IsIn, want_in, IsAsking, IsEnding, CommitsTo, EndsWith};
+ghost use Rattle.hart_story.specs.Progress.{node, left, is_done, IsSoundProgress, IsIn, want_in, IsAsking, IsEnding, CommitsTo, EndsWith, own_in};
 ghost use Rattle.hart_story.specs.StandsFor.{StandsFor, Shows};
 
 use crate::hart::Hart;
@@ -81,6 +82,10 @@ pub fn finish(hart: &mut Hart, progress: Progress, layout: &Layout, budget: u64)
     ensures ends { (setup : Setup) (i : Instruction) (part : EndPart) (after : State)
         → IsIn setup i hart.old progress layout.now budget → IsEnding setup i part after
         → EndsWith setup (want_in setup i) result hart.new }
+    // The reservation that it leaves is the one before, or this instruction's own load-reserved's, or none.
+    ensures reservation { (setup : Setup) (i : Instruction) (part : EndPart) (after : State)
+        → IsIn setup i hart.old progress layout.now budget → IsEnding setup i part after
+        → IsOwn (own_in setup i) hart.new.regs.reservation }
     ensures count { hart.new.regs.ends ≡ hart.old.regs.ends + 1 }
 {
     match progress {

@@ -2,8 +2,10 @@
 use Rattle.std.proofs.Common.{◌≡◌, ◌+◌, ℕ, Option, ap, sym, subst, ◌∙◌, arith}
 use Rattle.flex_base.specs.Word.{is_multiple}
 use Rattle.flex_base.specs.State.{State, set_reg, IsReservation}
-use Rattle.flex_base.specs.Story.{Ends, want}
+use Rattle.flex_base.specs.Reservations.{IsOwn}
+use Rattle.flex_base.specs.Story.{Ends, story, want}
 use Rattle.flex_base.specs.declared.event.EndPart.{EndPart}
+use Rattle.flex_base.proofs.OwnReservations.{story_reserves, ends_own}
 use Rattle.flex_base.proofs.Stories.{ends_unspent}
 use Rattle.hart_story.specs.Outcome.{IsSoundEnd}
 use Rattle.hart_story.specs.Progress.{node, IsSoundProgress}
@@ -46,3 +48,15 @@ returns-clause-ends c = λ setup i part after at ending.
         reserved = subst Left (sym at.of.ram) (sound.reserved at.of.whole (subst Within at.of.ram own));
       };
     }
+
+pub returns-clause-reservation : goal.returns-clause-reservation
+returns-clause-reservation c = λ setup i part after at ending.
+    let a = i.state in
+    let lines = c.in-Working-default-End.lines in
+    let end = c.in-Working-default-End.end in
+    let made : c.in-Working-default-End.field-1 ≡ outcome.End end = rw c.in-Working-default-End.is at c.in-Working-default-End.field-1-is in
+    let is : c.args.progress ≡ progress.Working lines (outcome.End end) = c.in-Working-default-End.is ∙ ap (progress.Working lines) made in
+    let committed = c.commit.ensures.commits a at.stands in
+    let held : IsOwn a.reservation a.reservation = λ set e. e in
+    let own = ends_own a.reservation (story setup a) i.replies _ _ (story_reserves setup a.reservation a held) (ap want (at.reached ∙ ap (node setup a) is)) in
+    λ set e. own set (sym committed.1.regs.reservation ∙ e)
