@@ -1,6 +1,6 @@
 -- The outside as contracts see it, and what each kind of call changes of it.
 use Rattle.std.specs.Prelude.{◌≡◌, ℕ, List, Option}
-use Rattle.flex_base.specs.Files.{Files, Counts}
+use Rattle.flex_base.specs.Files.{Files, Counts, ChangesFile, ChangesText}
 
 -- what there is outside: files and bytes said, each told to contracts or not, and two counts
 pub record Outside : Type 0 where
@@ -36,3 +36,11 @@ pub record OnlySays (old new : Outside) (Fails : Type 0) : Type 0 where
   pub read_faults : new.read_faults ≡ old.read_faults
   pub held : new.held ≡ old.held
   pub written : new.written ≡ old.written
+
+-- of the written files the named one changes so, and the others stay
+abbrev pub Writes : Outside → Outside → List ℕ → (Option (List ℕ) → Option (List ℕ) → Type 0) → Type 0
+Writes old new name Change = ChangesFile old.written new.written name Change
+
+-- the bytes said change so
+abbrev pub Says : Outside → Outside → (List ℕ → List ℕ → Type 0) → Type 0
+Says old new Change = ChangesText old.said new.said Change

@@ -1,7 +1,7 @@
 ghost use Rattle.std.specs.Prelude.{◌≡◌, ℕ, ◌≤◌, ◌<◌, length, IfOk, IsErr, IsErrOf, OnOk, OnErr};
 ghost use Rattle.std.specs.Result.{result_map_both};
-ghost use Rattle.flex_base.specs.Outside.{Outside, OnlyReads, OnlyWrites, OnlySays};
-ghost use Rattle.flex_base.specs.Files.{Taken, ChangesFile, Appended, AppendedPart, Started, StartedPart, ChangesText, Said, SaidPart};
+ghost use Rattle.flex_base.specs.Outside.{Outside, OnlyReads, OnlyWrites, OnlySays, Writes, Says};
+ghost use Rattle.flex_base.specs.Files.{Taken, Appended, AppendedPart, Started, StartedPart, Said, SaidPart};
 
 /// Why a file wasn't taken.
 #[derive(Clone, Copy, Debug, PartialEq, Eq)]
@@ -36,20 +36,20 @@ pub trait Outer {
 
     /// Makes the file of this name empty. Where it fails, the file is as it was or empty.
     fn start(&mut self, name: &str) -> Result<(), Failed>
-        ensures ok { OnOk result (ChangesFile (outside self.old).written (outside self.new).written name.now Started) }
-        ensures err { OnErr result (ChangesFile (outside self.old).written (outside self.new).written name.now StartedPart) }
+        ensures ok { OnOk result (Writes (outside self.old) (outside self.new) name.now Started) }
+        ensures err { OnErr result (Writes (outside self.old) (outside self.new) name.now StartedPart) }
         ensures frame { OnlyWrites (outside self.old) (outside self.new) (IsErr result) };
 
     /// Adds bytes at the end of the file of this name. Where it fails, it has added the first of
     /// them, maybe none.
     fn add(&mut self, name: &str, bytes: &[u8]) -> Result<(), Failed>
-        ensures ok { OnOk result (ChangesFile (outside self.old).written (outside self.new).written name.now (Appended bytes.now)) }
-        ensures err { OnErr result (ChangesFile (outside self.old).written (outside self.new).written name.now (AppendedPart bytes.now)) }
+        ensures ok { OnOk result (Writes (outside self.old) (outside self.new) name.now (Appended bytes.now)) }
+        ensures err { OnErr result (Writes (outside self.old) (outside self.new) name.now (AppendedPart bytes.now)) }
         ensures frame { OnlyWrites (outside self.old) (outside self.new) (IsErr result) };
 
     /// Says bytes. Where it fails, it has said the first of them, maybe none.
     fn say(&mut self, bytes: &[u8]) -> Result<(), Failed>
-        ensures ok { OnOk result (ChangesText (outside self.old).said (outside self.new).said (Said bytes.now)) }
-        ensures err { OnErr result (ChangesText (outside self.old).said (outside self.new).said (SaidPart bytes.now)) }
+        ensures ok { OnOk result (Says (outside self.old) (outside self.new) (Said bytes.now)) }
+        ensures err { OnErr result (Says (outside self.old) (outside self.new) (SaidPart bytes.now)) }
         ensures frame { OnlySays (outside self.old) (outside self.new) (IsErr result) };
 }

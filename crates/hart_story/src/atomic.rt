@@ -15,7 +15,8 @@ use flex_base::{Access, AmoOp, Class, Layout, reservation_set, is_reserved};
 pub(crate) fn load_reserved(layout: &Layout, width: u8, rd: u8, address: u64) -> Outcome
     requires width { IsAtomicWidth width }
     requires register { rd < 32 }
-    ensures works { (hart : Hart) → ComesTo layout.now hart (λ setup a. loads_reserved setup a width rd address) result }
+    ensures works { (hart : Hart) → ComesTo layout.now hart
+        (λ setup a. loads_reserved setup a width rd address) result }
     ensures sound { (hart : Hart) → IsSoundOutcome layout.now hart result }
 {
     let ask = Outcome::Ask {
@@ -76,7 +77,8 @@ pub(crate) fn modify(
 ) -> Outcome
     requires width { IsAtomicWidth width }
     requires register { rd < 32 }
-    ensures works { (hart : Hart) → ComesTo layout.now hart (λ setup a. modifies setup a op width rd address value) result }
+    ensures works { (hart : Hart) → ComesTo layout.now hart
+        (λ setup a. modifies setup a op width rd address value) result }
     ensures sound { (hart : Hart) → IsSoundOutcome layout.now hart result }
 {
     let ask = Outcome::Ask {

@@ -35,7 +35,8 @@ pub(crate) fn end_reserving(
 ) -> End
     requires { rd < 32 }
     ensures works { EndsAs hart.now (λ a. computes (record a { reservation = reservation }) class rd value) result }
-    ensures sound { (layout : Layout) → KeepsReservation layout hart.now reservation → IsSoundEnd layout hart.now result }
+    ensures sound { (layout : Layout) → KeepsReservation layout hart.now reservation
+        → IsSoundEnd layout hart.now result }
 {
     End {
         class,

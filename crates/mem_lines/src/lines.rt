@@ -110,7 +110,8 @@ impl Lines {
     /// The byte at an address of this bank.
     pub fn byte(&self, address: u64) -> u8
         requires inside { IsIn self.now address }
-        ensures { (setup : Setup) (made : List Done) → IsReplay setup made self.now → result ≡ byte setup.image made address }
+        ensures { (setup : Setup) (made : List Done) → IsReplay setup made self.now
+            → result ≡ byte setup.image made address }
     {
         let bytes: &[u8] = &self.bytes;
         bytes[offset(self.banks, address)]
@@ -151,7 +152,8 @@ impl Lines {
     fn write(&mut self, hart: u8, address: u64, width: u8, value: u64)
         requires span { IsSpan self.old address width }
         ensures same { IsSame self.old self.new }
-        ensures each { (a : ℕ) → IsIn self.old a → byte_held self.new a ≡ put a (byte_held self.old a) address width value }
+        ensures each { (a : ℕ) → IsIn self.old a → byte_held self.new a
+            ≡ put a (byte_held self.old a) address width value }
         ensures reservations { (h : ℕ) → reservation_at self.new h ≡ broken h hart address (reservation_at self.old h) }
     {
         let start = self.start(address, width);
@@ -243,7 +245,8 @@ impl Lines {
         requires hart { hart < 32 }
         ensures same { IsSame self.old self.new }
         ensures each { (a : ℕ) → byte_held self.new a ≡ byte_held self.old a }
-        ensures reservations { (h : ℕ) → reservation_at self.new h ≡ (if h == hart then Some reservation_set else reservation_at self.old h) }
+        ensures reservations { (h : ℕ) → reservation_at self.new h
+            ≡ (if h == hart then Some reservation_set else reservation_at self.old h) }
     {
         self.reservations.reserve(hart, reservation_set);
     }
@@ -253,7 +256,8 @@ impl Lines {
         requires hart { hart < 32 }
         ensures same { IsSame self.old self.new }
         ensures each { (a : ℕ) → byte_held self.new a ≡ byte_held self.old a }
-        ensures reservations { (h : ℕ) → reservation_at self.new h ≡ (if h == hart then None else reservation_at self.old h) }
+        ensures reservations { (h : ℕ) → reservation_at self.new h
+            ≡ (if h == hart then None else reservation_at self.old h) }
     {
         self.reservations.release(hart);
     }

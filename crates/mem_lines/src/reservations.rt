@@ -49,7 +49,8 @@ impl Reservations {
     // A load-reserved by this hart: its earlier reservation is gone.
     pub(crate) fn reserve(&mut self, hart: u8, reservation_set: u64)
         requires { hart < 32 }
-        ensures { (h : ℕ) → slice_index_or self.new h None ≡ (if h == hart then Some reservation_set else slice_index_or self.old h None) }
+        ensures { (h : ℕ) → slice_index_or self.new h None
+            ≡ (if h == hart then Some reservation_set else slice_index_or self.old h None) }
     {
         if self.places[hart as usize].is_none() {
             self.standing += 1;
@@ -62,7 +63,8 @@ impl Reservations {
 
     pub(crate) fn release(&mut self, hart: u8)
         requires { hart < 32 }
-        ensures { (h : ℕ) → slice_index_or self.new h None ≡ (if h == hart then None else slice_index_or self.old h None) }
+        ensures { (h : ℕ) → slice_index_or self.new h None
+            ≡ (if h == hart then None else slice_index_or self.old h None) }
     {
         if self.places[hart as usize].is_some() {
             self.standing -= 1;
@@ -72,7 +74,8 @@ impl Reservations {
 
     // Ends the reservations that a write by this hart ends, which are those of the other harts.
     pub(crate) fn end_others(&mut self, by: u8, address: u64)
-        ensures { (hart : ℕ) → slice_index_or self.new hart None ≡ broken hart by address (slice_index_or self.old hart None) }
+        ensures { (hart : ℕ) → slice_index_or self.new hart None
+            ≡ broken hart by address (slice_index_or self.old hart None) }
     {
         if self.standing == 0 {
             return;
