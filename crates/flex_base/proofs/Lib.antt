@@ -9,3 +9,4 @@ pub mod Quiet
 pub mod OwnReservations
 pub mod StandingReservations
 pub mod EndOfRun
+pub mod KnownBytes

@@ -22,6 +22,7 @@ mod real_outer;
 mod reservation;
 mod settings;
 mod steady_outer;
+mod streams;
 mod text;
 
 pub use access::{Access, Reply, access_class, is_ram};
@@ -39,6 +40,7 @@ pub use real_outer::RealOuter;
 pub use reservation::{reservation_set, is_reserved};
 pub use settings::{Layout, Place, RAM_BASE, Settings};
 pub use steady_outer::SteadyOuter;
+pub use streams::write_whole;
 pub use text::Text;
 
 #[cfg(test)]
