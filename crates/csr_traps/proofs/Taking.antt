@@ -8,7 +8,7 @@ use Rattle.std.specs.Int.{w64, bit_at}
 use Rattle.flex_base.specs.Csrs.{is_set, mip, mie, mideleg}
 use Rattle.flex_base.specs.Traps.{interrupts, first_cause, is_on_for_m, is_on_for_s, is_for_m, is_for_s, takeable}
 use Rattle.flex_base.specs.declared.hart.Mode.{Mode}
-use Rattle.csr_traps.specs.Ready.{ready_of, to_m_of, to_s_of, first_in}
+use Rattle.csr_traps.specs.Ready.{ready_set, set_for_m, set_for_s, first_in}
 
 min_test : (x y : ℕ) → x < 2 → y < 2 → eqb (min x y) 1 ≡ eqb x 1 && eqb y 1
 min_test zero y a b = grind (arith, nat_tests, b)
@@ -115,27 +115,27 @@ none_in : filter (λ i. is_set i 0) interrupts ≡ []
 none_in = refl
 
 m_by : (stores : List ℕ) (lines : ℕ) (mode : Mode) (on : Bool) → is_on_for_m stores mode ≡ on → slice_index stores mideleg < 2 ^ 64 →
-    filter (λ i. is_set i (if on then bit_and (ready_of stores lines) (2 ^ 64 - 1 - slice_index stores mideleg) else 0)) interrupts ≡ filter (is_for_m stores lines mode) interrupts
+    filter (λ i. is_set i (if on then bit_and (ready_set stores lines) (2 ^ 64 - 1 - slice_index stores mideleg) else 0)) interrupts ≡ filter (is_for_m stores lines mode) interrupts
 m_by stores lines mode true is small = sym (to_m (bit_or (slice_index stores mip) lines) (slice_index stores mie) (slice_index stores mideleg) (is_on_for_m stores mode) is small)
 m_by stores lines mode false is small = sym (none_off (λ i. is_set i (bit_or (slice_index stores mip) lines) && is_set i (slice_index stores mie)) (λ i. not (is_set i (slice_index stores mideleg))) (is_on_for_m stores mode) is)
 
 s_by : (stores : List ℕ) (lines : ℕ) (mode : Mode) (on : Bool) → is_on_for_s stores mode ≡ on →
-    filter (λ i. is_set i (if on then bit_and (ready_of stores lines) (slice_index stores mideleg) else 0)) interrupts ≡ filter (is_for_s stores lines mode) interrupts
+    filter (λ i. is_set i (if on then bit_and (ready_set stores lines) (slice_index stores mideleg) else 0)) interrupts ≡ filter (is_for_s stores lines mode) interrupts
 s_by stores lines mode true is = sym (to_s (bit_or (slice_index stores mip) lines) (slice_index stores mie) (slice_index stores mideleg) (is_on_for_s stores mode) is)
 s_by stores lines mode false is = sym (none_off (λ i. is_set i (bit_or (slice_index stores mip) lines) && is_set i (slice_index stores mie)) (λ i. is_set i (slice_index stores mideleg)) (is_on_for_s stores mode) is)
 
 first_m : (stores : List ℕ) (lines : ℕ) (mode : Mode) → slice_index stores mideleg < 2 ^ 64 →
-    first_in (to_m_of stores mode (ready_of stores lines)) ≡ first_cause (filter (is_for_m stores lines mode) interrupts)
+    first_in (set_for_m stores mode (ready_set stores lines)) ≡ first_cause (filter (is_for_m stores lines mode) interrupts)
 unfolding first_in
 first_m stores lines mode small = ap first_cause (m_by stores lines mode (is_on_for_m stores mode) refl small)
 
 first_s : (stores : List ℕ) (lines : ℕ) (mode : Mode) →
-    first_in (to_s_of stores mode (ready_of stores lines)) ≡ first_cause (filter (is_for_s stores lines mode) interrupts)
+    first_in (set_for_s stores mode (ready_set stores lines)) ≡ first_cause (filter (is_for_s stores lines mode) interrupts)
 unfolding first_in
 first_s stores lines mode = ap first_cause (s_by stores lines mode (is_on_for_s stores mode) refl)
 
 -- nothing ready, nothing taken
-pub takeable_none : (stores : List ℕ) (lines : ℕ) (mode : Mode) → ready_of stores lines ≡ 0 → takeable stores lines mode ≡ None
+pub takeable_none : (stores : List ℕ) (lines : ℕ) (mode : Mode) → ready_set stores lines ≡ 0 → takeable stores lines mode ≡ None
 unfolding takeable
 takeable_none stores lines mode nothing =
     let pending = bit_or (slice_index stores mip) lines in
@@ -145,15 +145,15 @@ takeable_none stores lines mode nothing =
 
 -- M's first
 pub takeable_m : (stores : List ℕ) (lines : ℕ) (mode : Mode) (cause : ℕ) → slice_index stores mideleg < 2 ^ 64 →
-    first_in (to_m_of stores mode (ready_of stores lines)) ≡ Some cause → takeable stores lines mode ≡ Some cause
+    first_in (set_for_m stores mode (ready_set stores lines)) ≡ Some cause → takeable stores lines mode ≡ Some cause
 unfolding takeable
 takeable_m stores lines mode cause small is =
     first_cause-left (filter (is_for_m stores lines mode) interrupts) (filter (is_for_s stores lines mode) interrupts) cause (sym (first_m stores lines mode small) ∙ is)
 
 -- where M takes none, S's first
 pub takeable_s : (stores : List ℕ) (lines : ℕ) (mode : Mode) → slice_index stores mideleg < 2 ^ 64 →
-    first_in (to_m_of stores mode (ready_of stores lines)) ≡ None →
-    takeable stores lines mode ≡ first_in (to_s_of stores mode (ready_of stores lines))
+    first_in (set_for_m stores mode (ready_set stores lines)) ≡ None →
+    takeable stores lines mode ≡ first_in (set_for_s stores mode (ready_set stores lines))
 unfolding takeable
 takeable_s stores lines mode small is =
     first_cause-right (filter (is_for_m stores lines mode) interrupts) (filter (is_for_s stores lines mode) interrupts) (sym (first_m stores lines mode small) ∙ is)

@@ -5,15 +5,15 @@ use Rattle.flex_base.specs.Traps.{interrupts, first_cause, is_on_for_m, is_on_fo
 use Rattle.flex_base.specs.declared.hart.Mode.{Mode}
 
 -- those that are pending and enabled
-abbrev pub ready_of : List ℕ → ℕ → ℕ
-ready_of stores lines = bit_and (bit_and (bit_or (slice_index stores mip) lines) (slice_index stores mie)) 0xaaa
+abbrev pub ready_set : List ℕ → ℕ → ℕ
+ready_set stores lines = bit_and (bit_and (bit_or (slice_index stores mip) lines) (slice_index stores mie)) 0xaaa
 
 -- of some interrupts, those that M takes now, and those that S does
-abbrev pub to_m_of : List ℕ → Mode → ℕ → ℕ
-to_m_of stores mode ready = if is_on_for_m stores mode then bit_and ready (all_but (slice_index stores mideleg)) else 0
+abbrev pub set_for_m : List ℕ → Mode → ℕ → ℕ
+set_for_m stores mode ready = if is_on_for_m stores mode then bit_and ready (all_but (slice_index stores mideleg)) else 0
 
-abbrev pub to_s_of : List ℕ → Mode → ℕ → ℕ
-to_s_of stores mode ready = if is_on_for_s stores mode then bit_and ready (slice_index stores mideleg) else 0
+abbrev pub set_for_s : List ℕ → Mode → ℕ → ℕ
+set_for_s stores mode ready = if is_on_for_s stores mode then bit_and ready (slice_index stores mideleg) else 0
 
 -- the cause of the first of some interrupts
 unfoldable pub first_in : ℕ → Option ℕ

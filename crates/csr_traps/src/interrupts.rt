@@ -1,30 +1,28 @@
 ghost use Rattle.std.specs.Prelude.{◌≡◌, ℕ, ◌<◌, ◌^◌, IfSome, slice_index};
+ghost use Rattle.flex_base.specs.Causes.{interrupt};
 ghost use Rattle.flex_base.specs.Csrs.{IsCause, mideleg};
 ghost use Rattle.flex_base.specs.Traps.{takeable, is_on_for_m, is_on_for_s};
 ghost use Rattle.csr_traps.specs.Laws.{TakesFirst};
-ghost use Rattle.csr_traps.specs.Ready.{ready_of, to_m_of, to_s_of, first_in};
+ghost use Rattle.csr_traps.specs.Ready.{ready_set, set_for_m, set_for_s, first_in};
 
 use crate::csrs::Csrs;
 use crate::status::{MIE, SIE, is_set};
 use flex_base::Mode;
 
 // Interrupts by their bits in mip and mie (Volume II, "Machine Interrupt Registers").
-const SSI: u64 = 1;
+const SSI: u32 = 1;
 
-const MSI: u64 = 3;
+const MSI: u32 = 3;
 
-const STI: u64 = 5;
+const STI: u32 = 5;
 
-const MTI: u64 = 7;
+const MTI: u32 = 7;
 
-const SEI: u64 = 9;
+const SEI: u32 = 9;
 
-const MEI: u64 = 11;
+const MEI: u32 = 11;
 
 const ALL: u64 = 0xaaa;
-
-// What marks the cause of an interrupt.
-const INTERRUPT: u64 = 1 << 63;
 
 impl Csrs {
     /// The cause of the interrupt that is taken in this mode with these lines, which is its number
@@ -38,26 +36,26 @@ impl Csrs {
         ensures cause { IfSome result IsCause }
         ensures law { TakesFirst self.now lines mode }
     {
-        let ready = self.ready(lines);
+        let ready = self.ready_set(lines);
         if ready == 0 {
             return None;
         }
-        match first_of(self.to_m(ready, mode)) {
+        match first_of(self.set_for_m(ready, mode)) {
             Some(cause) => Some(cause),
-            None => first_of(self.to_s(ready, mode)),
+            None => first_of(self.set_for_s(ready, mode)),
         }
     }
 
     // The interrupts that are pending and enabled.
-    fn ready(&self, lines: u64) -> u64
-        ensures { result ≡ ready_of self.now lines }
+    fn ready_set(&self, lines: u64) -> u64
+        ensures { result ≡ ready_set self.now lines }
     {
         (self.mip | lines) & self.mie & ALL
     }
 
     // Of these interrupts, those that M takes now.
-    fn to_m(&self, ready: u64, mode: Mode) -> u64
-        ensures taken { result ≡ to_m_of self.now mode ready }
+    fn set_for_m(&self, ready: u64, mode: Mode) -> u64
+        ensures taken { result ≡ set_for_m self.now mode ready }
         ensures word { slice_index self.now mideleg < 2 ^ 64 }
     {
         let not_delegated = !self.mideleg;
@@ -69,8 +67,8 @@ impl Csrs {
     }
 
     // Of these interrupts, those that S takes now.
-    fn to_s(&self, ready: u64, mode: Mode) -> u64
-        ensures { result ≡ to_s_of self.now mode ready }
+    fn set_for_s(&self, ready: u64, mode: Mode) -> u64
+        ensures { result ≡ set_for_s self.now mode ready }
     {
         if self.is_on_for_s(mode) {
             ready & self.mideleg
@@ -105,23 +103,31 @@ fn first_of(set: u64) -> Option<u64>
     ensures first { result ≡ first_in set }
     ensures cause { IfSome result IsCause }
 {
-    if is_set(set, MEI as u32) {
-        return Some(INTERRUPT | MEI);
+    if is_set(set, MEI) {
+        return Some(cause_of(MEI));
     }
-    if is_set(set, MSI as u32) {
-        return Some(INTERRUPT | MSI);
+    if is_set(set, MSI) {
+        return Some(cause_of(MSI));
     }
-    if is_set(set, MTI as u32) {
-        return Some(INTERRUPT | MTI);
+    if is_set(set, MTI) {
+        return Some(cause_of(MTI));
     }
-    if is_set(set, SEI as u32) {
-        return Some(INTERRUPT | SEI);
+    if is_set(set, SEI) {
+        return Some(cause_of(SEI));
     }
-    if is_set(set, SSI as u32) {
-        return Some(INTERRUPT | SSI);
+    if is_set(set, SSI) {
+        return Some(cause_of(SSI));
     }
-    if is_set(set, STI as u32) {
-        return Some(INTERRUPT | STI);
+    if is_set(set, STI) {
+        return Some(cause_of(STI));
     }
     None
+}
+
+// The cause of an interrupt has bit 63 set (Volume II, "Machine Cause Register").
+fn cause_of(number: u32) -> u64
+    requires { number < 63 }
+    ensures { result ≡ interrupt number }
+{
+    (1 << 63) + u64::from(number)
 }
