@@ -42,6 +42,7 @@ ReadsBack r =
     (stores : List ℕ) (old value : ℕ) → slice_index stores mideleg < 2 ^ 64 →
     bit_and (r.reads stores (with_bits old (r.writes stores value) value)) (r.writes stores value) ≡ bit_and value (r.writes stores value)
 
+-- each of these rows meets a law
 abbrev pub OfEach : (Row → Type 0) → List Row → Type 0
 OfEach Law [] = Unit {0}
 OfEach Law (r ∷ rest) = Law r × OfEach Law rest

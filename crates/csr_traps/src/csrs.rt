@@ -8,7 +8,7 @@ use std::marker::Model;
 
 /// The control and status registers of a hart, of which contracts see the list of their stores, in
 /// the order of the fields (Volume II, "Control and Status Registers (CSRs)").
-#[derive(Drop)]
+#[derive(Clone, Copy, Debug, PartialEq, Eq)]
 pub struct Csrs {
     pub(crate) stvec: u64,
     pub(crate) scounteren: u64,
@@ -36,11 +36,38 @@ pub struct Csrs {
 }
 
 impl Model for Csrs {
-    ghost use Rattle.std.specs.Prelude.{ℕ, List, [], ◌∷◌};
+    ghost use Rattle.std.specs.Prelude.{ℕ, List, [], ◌∷◌, slice_index};
 
     ghost Value = { List ℕ };
 
-    ghost view = { λ c. c.stvec ∷ c.scounteren ∷ c.sscratch ∷ c.sepc ∷ c.scause ∷ c.stval ∷ c.satp ∷ c.mstatus ∷ c.medeleg ∷ c.mideleg ∷ c.mie ∷ c.mtvec ∷ c.mcounteren ∷ c.mscratch ∷ c.mepc ∷ c.mcause ∷ c.mtval ∷ c.mip ∷ c.mcycle ∷ c.minstret ∷ c.mhartid ∷ [] };
+    ghost view = { λ c.
+        c.stvec ∷ c.scounteren ∷ c.sscratch ∷ c.sepc ∷ c.scause ∷ c.stval ∷ c.satp ∷ c.mstatus ∷
+        c.medeleg ∷ c.mideleg ∷ c.mie ∷ c.mtvec ∷ c.mcounteren ∷ c.mscratch ∷ c.mepc ∷
+        c.mcause ∷ c.mtval ∷ c.mip ∷ c.mcycle ∷ c.minstret ∷ c.mhartid ∷ [] };
+
+    ghost inverse = { λ s. record {
+      stvec = slice_index s 0;
+      scounteren = slice_index s 1;
+      sscratch = slice_index s 2;
+      sepc = slice_index s 3;
+      scause = slice_index s 4;
+      stval = slice_index s 5;
+      satp = slice_index s 6;
+      mstatus = slice_index s 7;
+      medeleg = slice_index s 8;
+      mideleg = slice_index s 9;
+      mie = slice_index s 10;
+      mtvec = slice_index s 11;
+      mcounteren = slice_index s 12;
+      mscratch = slice_index s 13;
+      mepc = slice_index s 14;
+      mcause = slice_index s 15;
+      mtval = slice_index s 16;
+      mip = slice_index s 17;
+      mcycle = slice_index s 18;
+      minstret = slice_index s 19;
+      mhartid = slice_index s 20;
+    } };
 }
 
 /// A CSR that isn't there, or that this mode may not read or write: the instruction is illegal.
