@@ -2,6 +2,8 @@ pub mod Word
 pub mod Limits
 pub mod Place
 pub mod Causes
+pub mod Csrs
+pub mod Traps
 pub mod Loaded
 pub mod Files
 pub mod Outside
