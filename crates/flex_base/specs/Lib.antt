@@ -11,6 +11,7 @@ pub mod Decoding
 pub mod Arithmetic
 pub mod State
 pub mod Setup
+pub mod Translation
 pub mod Story
 pub mod Forms
 pub mod FlatMemory

@@ -23,6 +23,7 @@ mod reservation;
 mod settings;
 mod steady_outer;
 mod text;
+mod translation;
 
 pub use access::{Access, Reply, access_class};
 pub use class::{Class, capable};
@@ -40,6 +41,7 @@ pub use reservation::{granule, is_reserved};
 pub use settings::{Layout, Place, RAM_BASE, Settings};
 pub use steady_outer::SteadyOuter;
 pub use text::Text;
+pub use translation::{Kind, Leaf, WalkStep};
 
 #[cfg(test)]
 mod tests;
