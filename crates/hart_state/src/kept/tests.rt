@@ -1,7 +1,11 @@
+ghost use Rattle.std.specs.Prelude.{◌≡◌};
+
 use super::*;
 
-// A leaf whose frame tells it from others.
-fn leaf(page: u64, frame: u64) -> Leaf {
+fn leaf(page: u64, frame: u64) -> Leaf
+    ensures page { result.page ≡ page }
+    ensures frame { result.frame ≡ frame }
+{
     Leaf {
         page,
         frame,
