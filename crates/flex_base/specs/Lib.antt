@@ -4,8 +4,9 @@ pub mod Place
 pub mod Causes
 pub mod Loaded
 pub mod Files
-pub mod InMemory
-pub mod Memory
+pub mod Outside
+pub mod FilesInMemory
+pub mod OuterInMemory
 pub mod Classes
 pub mod Decoding
 pub mod Arithmetic
@@ -15,9 +16,11 @@ pub mod Translation
 pub mod Story
 pub mod Forms
 pub mod FlatMemory
+pub mod DevicesSoFar
+pub mod Reservations
 pub mod Unsplit
 pub mod Rounds
 pub mod Built
-pub mod Going
+pub mod EndOfRun
 pub mod Split
 pub mod Journal

@@ -25,7 +25,7 @@ mod steady_outer;
 mod text;
 mod translation;
 
-pub use access::{Access, Reply, access_class};
+pub use access::{Access, Reply, access_class, is_ram};
 pub use class::{Class, capable};
 pub use engine::Engine;
 pub use event::{EndPart, Event, Stop, What};
@@ -37,7 +37,7 @@ pub use memory_outer::MemoryOuter;
 pub use operation::{AluOp, AmoOp, BranchOp, CsrOp, MulOp, Op};
 pub use outer::{Failed, Outer, TakeFault};
 pub use real_outer::RealOuter;
-pub use reservation::{granule, is_reserved};
+pub use reservation::{reservation_set, is_reserved};
 pub use settings::{Layout, Place, RAM_BASE, Settings};
 pub use steady_outer::SteadyOuter;
 pub use text::Text;

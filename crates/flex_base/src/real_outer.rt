@@ -1,4 +1,4 @@
-ghost use Rattle.std.specs.Prelude.{◌≡◌, ℕ, ◌≤◌, None, IfOk, length, vec_len};
+ghost use Rattle.std.specs.Prelude.{◌≡◌, ◌≢◌, ℕ, ◌≤◌, ◌<◌, None, IfOk, length, vec_len};
 
 use crate::counts::rise;
 use crate::outer::{Failed, Outer, TakeFault};
@@ -24,11 +24,8 @@ pub struct RealOuter<R: Runtime + AllocGlobal> {
 impl<R: Runtime + AllocGlobal> RealOuter<R> {
     /// The outside as this runtime reaches it.
     pub fn new(rt: R) -> RealOuter<R>
-        ensures held { ⟦<RealOuter<R> as Outer>⟧.held result ≡ None }
-        ensures written { ⟦<RealOuter<R> as Outer>⟧.written result ≡ None }
-        ensures said { ⟦<RealOuter<R> as Outer>⟧.said result ≡ None }
-        ensures read_faults { ⟦<RealOuter<R> as Outer>⟧.read_faults result ≡ 0 }
-        ensures write_faults { ⟦<RealOuter<R> as Outer>⟧.write_faults result ≡ 0 }
+        ensures { ⟦<RealOuter<R> as Outer>⟧.outside result ≡ record {
+            held = None; written = None; said = None; read_faults = 0; write_faults = 0 } }
     {
         RealOuter {
             rt,
@@ -39,15 +36,8 @@ impl<R: Runtime + AllocGlobal> RealOuter<R> {
 }
 
 impl<R: Runtime + AllocGlobal> Outer for RealOuter<R> {
-    ghost held = { λ _. None };
-
-    ghost written = { λ _. None };
-
-    ghost said = { λ _. None };
-
-    ghost read_faults = { λ outer. outer.read_faults };
-
-    ghost write_faults = { λ outer. outer.write_faults };
+    ghost outside = { λ outer. record {
+        held = None; written = None; said = None; read_faults = outer.read_faults; write_faults = outer.write_faults } };
 
     fn take(&mut self, name: &str, limit: u64) -> Result<Vec<u8>, TakeFault> {
         match read_file(&self.rt, name, limit) {
@@ -94,7 +84,8 @@ impl<R: Runtime + AllocGlobal> Outer for RealOuter<R> {
 
 // All bytes of a file, if they are no more than the limit.
 fn read_file<R: Runtime + AllocGlobal>(rt: &R, name: &str, limit: u64) -> Result<Vec<u8>, TakeFault>
-    ensures { IfOk result (λ v. length v.items ≤ limit) }
+    ensures within { IfOk result (λ v. length v.items ≤ limit) }
+    ensures over { (n : ℕ) → result ≡ Err (TakeFault.TooLong n) → limit < n }
 {
     let mut file = match File::open(rt, name) {
         Ok(file) => file,
@@ -115,7 +106,8 @@ fn read_file<R: Runtime + AllocGlobal>(rt: &R, name: &str, limit: u64) -> Result
 
 // What a reader gives up to its end or to the limit.
 fn read_whole<F: Read>(alloc: Global, file: &mut F, limit: u64) -> Result<Vec<u8>, TakeFault>
-    ensures { IfOk result (λ v. length v.items ≤ limit) }
+    ensures within { IfOk result (λ v. length v.items ≤ limit) }
+    ensures over { (n : ℕ) → result ≢ Err (TakeFault.TooLong n) }
 {
     let mut bytes = Vec::new(alloc);
     let mut piece = match blank(alloc, PIECE) {

@@ -16,12 +16,12 @@ abbrev pub files_or_empty : List (List ℕ × List ℕ) → Files
 files_or_empty files name = Some (unwrap_or (files_of files name) [])
 
 -- the names and contents of a list of files
-abbrev pub named : List (List ℕ × Vec ℕ Global) → List (List ℕ × List ℕ)
-named files = map (λ file. (file.0, file.1.items)) files
+abbrev pub entries_of : List (List ℕ × Vec ℕ Global) → List (List ℕ × List ℕ)
+entries_of files = map (λ file. (file.0, file.1.items)) files
 
 -- the files of a map
-abbrev pub stored : BTreeMap (String Global) (Vec ℕ Global) → Files
-stored files name = option_map (λ v. v.items) (get_by_text files name)
+abbrev pub files_of_map : BTreeMap (String Global) (Vec ℕ Global) → Files
+files_of_map files name = option_map (λ v. v.items) (get_by_text files name)
 
 -- this call is among those that fail
 abbrev pub is_due : List ℕ → ℕ → Bool
