@@ -24,6 +24,7 @@ mod settings;
 mod steady_outer;
 mod streams;
 mod text;
+mod translation;
 
 pub use access::{Access, Reply, access_class, is_ram};
 pub use class::{Class, capable};
@@ -42,6 +43,7 @@ pub use settings::{Layout, Place, RAM_BASE, Settings};
 pub use steady_outer::SteadyOuter;
 pub use streams::write_whole;
 pub use text::Text;
+pub use translation::{Kind, Leaf, WalkStep};
 
 #[cfg(test)]
 mod tests;

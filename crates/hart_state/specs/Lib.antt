@@ -1,1 +1,2 @@
 pub mod AreRegsOf
+pub mod IsLatest
