@@ -3,6 +3,7 @@ use Rattle.std.proofs.Common.{◌≡◌, ℕ, ◌<◌, Bool, true, false, if◌t
 use Rattle.std.proofs.lemmas.Bool.Decides.{nat_tests}
 use Rattle.flex_base.specs.Files.{Counts}
 use Rattle.flex_top.specs.Answer.{expected, answer_of_file, image_limit, IsAnswer, IsCalm, IsEnded}
+use Rattle.flex_base.specs.declared.settings.Settings.{Settings}
 use Rattle.flex_top.specs.declared.status.Status.{Status}
 use Rattle.flex_top.specs.declared.status.Status.TheVariants as status
 use Rattle.flex_top.specs.declared.status.ImageFault.TheVariants as image
@@ -25,14 +26,14 @@ within_by true n answer ends = absurd cc
 within_by false n answer ends = ends
 
 -- a run that is expected to end has an image within its limit
-pub expected_within : (file : List ℕ) (harts ram budget : ℕ) (order : List ℕ) → expected file harts ram budget order ≡ status.Ended → answer_of_file file harts ram budget order ≡ status.Ended
-expected_within file harts ram budget order ends = within_by (nat_lt image_limit (length file)) (length file) (answer_of_file file harts ram budget order) ends
+pub expected_within : (file : List ℕ) (settings : Settings) (order : List ℕ) → expected file settings order ≡ status.Ended → answer_of_file file settings order ≡ status.Ended
+expected_within file settings order ends = within_by (nat_lt image_limit (length file)) (length file) (answer_of_file file settings order) ends
 
 longer_by : (long : Bool) (n : ℕ) (answer : Status) → long ≡ true → (if long then status.ImageRefused (image.TooLong n) else answer) ≡ status.Ended → ⊥
 longer_by true n answer is ends = cc
 longer_by false n answer is ends = cc
 
-pub expected_longer : (file : List ℕ) (harts ram budget : ℕ) (order : List ℕ) → image_limit < length file → expected file harts ram budget order ≡ status.Ended → ⊥
-expected_longer file harts ram budget order longer ends =
+pub expected_longer : (file : List ℕ) (settings : Settings) (order : List ℕ) → image_limit < length file → expected file settings order ≡ status.Ended → ⊥
+expected_longer file settings order longer ends =
     let long : nat_lt image_limit (length file) ≡ true = grind (arith, nat_tests) in
-    longer_by (nat_lt image_limit (length file)) (length file) (answer_of_file file harts ram budget order) long ends
+    longer_by (nat_lt image_limit (length file)) (length file) (answer_of_file file settings order) long ends

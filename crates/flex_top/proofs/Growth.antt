@@ -109,10 +109,10 @@ changes_weaker (Some a) None name Change Change' weaker p = p
 changes_weaker (Some a) (Some b) name Change Change' weaker p = (weaker (a name) (b name) p.0, p.1)
 
 -- the whole text, which begins with some byte, from the start of the file to the last piece
-pub becomes : (a b c d : Option Files) (name held rest : List ℕ) (n : ℕ) → ChangesFile a b name Started → Passes b c name [] held (n ∷ rest) → Grows c d name held → ChangesFile a d name (Becomes (n ∷ rest))
-becomes a b c d name held rest n starts p last =
-    let grown : Grows b d name (n ∷ rest) = subst (λ (x : List ℕ). Grows b d name x) p.whole (grows_on b c d name p.added held p.grows last) in
-    changes_weaker a d name _ _ (λ old new same. is_there new n rest same) (from_start a b d name (n ∷ rest) starts grown)
+pub becomes : (a b c d : Option Files) (name held text rest : List ℕ) (n : ℕ) → text ≡ n ∷ rest → ChangesFile a b name Started → Passes b c name [] held text → Grows c d name held → ChangesFile a d name (Becomes text)
+becomes a b c d name held text rest n begins starts p last =
+    let grown : Grows b d name text = subst (λ (x : List ℕ). Grows b d name x) p.whole (grows_on b c d name p.added held p.grows last) in
+    changes_weaker a d name _ _ (λ old new same. is_there new n rest (same ∙ begins) ∙ ap (λ t. Some t) (sym begins)) (from_start a b d name text starts grown)
 
 -- a failure after the start
 pub becomes_part : (a b c : Option Files) (name text : List ℕ) → ChangesFile a b name Started → PassesPart b c name [] text → ChangesFile a c name (BecomesPart text)

@@ -7,5 +7,4 @@ pub mod Rounds
 pub mod Writing
 pub mod Starting
 pub mod Growth
-pub mod ShownLists
-pub mod WholeText
+pub mod Tails

@@ -1,6 +1,7 @@
 pub mod Words
 pub mod EventText
 pub mod TailText
+pub mod Tail
 pub mod Trace
 pub mod Written
 pub mod Memory

@@ -1,9 +1,6 @@
 -- A text written to a file in pieces.
-use Rattle.std.specs.Prelude.{◌≡◌, ℕ, ◌<◌, ◌⊎◌, List, [], ◌++◌, length, take, Option, Some, unwrap_or, slice_index_or}
+use Rattle.std.specs.Prelude.{◌≡◌, ℕ, ◌⊎◌, List, [], ◌++◌, take, Option, Some, unwrap_or}
 use Rattle.flex_base.specs.Files.{Files, ChangesFile}
-use Rattle.flex_base.specs.State.{State}
-use Rattle.hart_story.specs.StandsFor.{StandsFor}
-use Rattle.hart_story.specs.declared.hart.Hart.{Hart}
 
 -- the file gained these bytes
 abbrev pub Gains : List ℕ → Option (List ℕ) → Option (List ℕ) → Type 0
@@ -33,7 +30,3 @@ Becomes text old new = new ≡ Some text
 -- the file is as it was, or the first bytes of this text, maybe none
 abbrev pub BecomesPart : List ℕ → Option (List ℕ) → Option (List ℕ) → Type 0
 BecomesPart text old new = (new ≡ old) ⊎ ((n : ℕ) × (unwrap_or new [] ≡ take n text))
-
--- each hart is in the state of its number
-abbrev pub AllStand : List Hart → (ℕ → State) → Type 0
-AllStand harts state = (h : ℕ) (other : Hart) → h < length harts → StandsFor (slice_index_or harts h other) (state h)

@@ -3,7 +3,7 @@ ghost use Rattle.flex_base.specs.Classes.{class_of_what, default_plan};
 ghost use Rattle.flex_base.specs.Unsplit.{does};
 ghost use Rattle.flex_base.specs.Split.{part, unparted, numbered};
 
-use flex_base::{Class, Engine, Event, HartId, What, access_class, capable};
+use flex_base::{Class, Engine, Event, HartId, What, capable};
 use std::alloc::{AllocError, Global};
 
 /// The split run so far: the engine that holds each hart, and the numbered events with the
@@ -29,15 +29,17 @@ impl SplitRun {
         })
     }
 
-    // Adds what the hart did, with a handover before it where that is another engine's work.
-    pub(crate) fn add(&mut self, hart: HartId, what: What) -> Result<(), AllocError>
-        requires { hart.0 < length self.old.engines.items }
+    // Adds what the hart did, which is of this class, with a handover before it where that is
+    // another engine's work.
+    pub(crate) fn add(&mut self, hart: HartId, class: Class, what: What) -> Result<(), AllocError>
+        requires hart { hart.0 < length self.old.engines.items }
+        requires class { class ≡ class_of_what what }
         ensures part { OnOk result (parted_by self.new ≡ part default_plan (parted_by self.old) (does hart.0 what)) }
         ensures size { OnOk result (length self.new.engines.items ≡ length self.old.engines.items) }
     {
         let h = hart.0 as usize;
         let from = self.engines[h];
-        let to = engine_of(class_of(&what));
+        let to = engine_of(class);
         if from != to {
             number(&mut self.events, hart, from, What::Handover(to))?;
         }
@@ -64,16 +66,6 @@ fn number(
     };
     events.push(event)?;
     Ok(())
-}
-
-fn class_of(what: &What) -> Class
-    ensures { result ≡ class_of_what what.now }
-{
-    match what {
-        What::Acc(access, _) => access_class(access),
-        What::End(part) => part.class,
-        What::Handover(_) => Class::Fetch,
-    }
 }
 
 // The engine that the default plan names.

@@ -4,7 +4,7 @@ ghost use Rattle.flex_base.specs.Setup.{Setup};
 ghost use Rattle.flex_base.specs.Going.{GoesOn};
 ghost use Rattle.flex_base.specs.Journal.{console};
 ghost use Rattle.flex_top.specs.Words.{Reading, reading};
-ghost use Rattle.flex_top.specs.Answer.{setup_of, expected, IsCalm, IsEnded, Answers, IsWhole, journal_of, trace_of};
+ghost use Rattle.flex_top.specs.Answer.{raw, setup_of, expected, IsCalm, IsEnded, Answers, IsWhole, journal_of, trace_of};
 ghost use Rattle.flex_top.specs.Written.{Becomes, BecomesPart};
 
 use crate::solo::solo;
@@ -28,18 +28,18 @@ pub fn flex_top<O: Outer>(alloc: Global, words: &[String], outer: &mut O) -> Sta
     ensures usage { (result ≡ Status.Usage) ↔ (reading (map string_bytes words.now) ≡ None) }
     ensures read_fault { Counts (O.read_faults outer.old) (O.read_faults outer.new) (result ≡ Status.ReadFault) }
     ensures write_fault { Counts (O.write_faults outer.old) (O.write_faults outer.new) (result ≡ Status.WriteFault) }
-    ensures answer { (r : Reading) → reading (map string_bytes words.now) ≡ Some r → IfSome (O.held outer.old) (λ files. Answers (files r.image) r.harts r.ram r.budget r.order result) }
+    ensures answer { (r : Reading) → reading (map string_bytes words.now) ≡ Some r → IfSome (O.held outer.old) (λ files. Answers (files r.image) r.settings r.order result) }
 
-    ensures complete { (r : Reading) (file : List ℕ) → reading (map string_bytes words.now) ≡ Some r → IsSomeAnd (O.held outer.old) (λ files. files r.image ≡ Some file) → expected file r.harts r.ram r.budget r.order ≡ Status.Ended
+    ensures complete { (r : Reading) (file : List ℕ) → reading (map string_bytes words.now) ≡ Some r → IsSomeAnd (O.held outer.old) (λ files. files r.image ≡ Some file) → expected file r.settings r.order ≡ Status.Ended
         → IsCalm (O.read_faults outer.old) (O.read_faults outer.new) → IsCalm (O.write_faults outer.old) (O.write_faults outer.new) → IsEnded result }
 
     // What is written: the trace of the order and then the rounds, split by the default plan.
     ensures trace { (r : Reading) (file : List ℕ) → reading (map string_bytes words.now) ≡ Some r → IsSomeAnd (O.held outer.old) (λ files. files r.image ≡ Some file)
-        → result ≡ Status.Ended → ChangesFile (O.written outer.old) (O.written outer.new) r.trace (Becomes (trace_of (setup_of file r.harts r.ram r.budget) r.order)) }
+        → result ≡ Status.Ended → ChangesFile (O.written outer.old) (O.written outer.new) r.trace (Becomes (trace_of (setup_of (raw file) r.settings) r.order)) }
     ensures cut { (r : Reading) (file : List ℕ) → reading (map string_bytes words.now) ≡ Some r → IsSomeAnd (O.held outer.old) (λ files. files r.image ≡ Some file)
-        → result ≡ Status.WriteFault → ChangesFile (O.written outer.old) (O.written outer.new) r.trace (BecomesPart (trace_of (setup_of file r.harts r.ram r.budget) r.order)) }
+        → result ≡ Status.WriteFault → ChangesFile (O.written outer.old) (O.written outer.new) r.trace (BecomesPart (trace_of (setup_of (raw file) r.settings) r.order)) }
     ensures whole { (r : Reading) (file : List ℕ) → reading (map string_bytes words.now) ≡ Some r → IsSomeAnd (O.held outer.old) (λ files. files r.image ≡ Some file)
-        → result ≡ Status.Ended → IsWhole (setup_of file r.harts r.ram r.budget) r.order }
+        → result ≡ Status.Ended → IsWhole (setup_of (raw file) r.settings) r.order }
     ensures nothing { result ≢ Status.Ended → result ≢ Status.WriteFault → O.written outer.new ≡ O.written outer.old }
 
     // Why a run ends: until then some hart has a next event, and no hart has one for ever.
@@ -47,7 +47,7 @@ pub fn flex_top<O: Outer>(alloc: Global, words: &[String], outer: &mut O) -> Sta
 
     // What is said: the console bytes of the run, of which there are none so far.
     ensures console { (r : Reading) (file : List ℕ) → reading (map string_bytes words.now) ≡ Some r → IsSomeAnd (O.held outer.old) (λ files. files r.image ≡ Some file)
-        → result ≡ Status.Ended → ChangesText (O.said outer.old) (O.said outer.new) (Said (console (journal_of (setup_of file r.harts r.ram r.budget) r.order))) }
+        → result ≡ Status.Ended → ChangesText (O.said outer.old) (O.said outer.new) (Said (console (journal_of (setup_of (raw file) r.settings) r.order))) }
     ensures held { O.held outer.new ≡ O.held outer.old }
     ensures said { O.said outer.new ≡ O.said outer.old }
 {

@@ -1,7 +1,7 @@
 use Rattle.std.proofs.Common.{◌≡◌, ◌+◌, ◌*◌, ◌++◌, take, length}
 use Rattle.std.specs.List.{flat_map}
 use Rattle.flex_top.specs.EventText.{hex_digits}
-use Rattle.flex_top.proofs.text.tail.put_bytes.Given as goal
+use Rattle.flex_top.proofs.text.tail_text.put_bytes.Given as goal
 
 -- the bytes so far are written
 abbrev pub invariant-loop-byte : goal.invariant-loop-byte
