@@ -1,4 +1,4 @@
-mod Completing
+pub mod Doing
 pub mod WordsLemmas
 pub mod HexDigits
 pub mod Banks

@@ -3,12 +3,12 @@ use Rattle.std.proofs.Common.{◌≡◌, ℕ, ◌+◌, ◌-◌, ◌<◌, ◌≤�
 use Rattle.std.specs.List.{range_with_len}
 use Rattle.flex_base.specs.Setup.{Setup}
 use Rattle.flex_base.specs.Unsplit.{Machine, step, reach, reach_from, begin, hart_numbers, has_ended}
-use Rattle.flex_base.specs.Rounds.{turn_of, turns, repeated, most_rounds, rounds, played}
+use Rattle.flex_base.specs.Rounds.{turn_of, turns, repeated, most_rounds, rounds, names_played}
 use Rattle.flex_base.specs.Built.{unbuilt_at, first_of, first_unbuilt}
 use Rattle.flex_base.proofs.Machines.{reach-cons, reach-none, reach-append, reach_push}
 use Rattle.flex_base.proofs.Turns.{first_none, first_unbuilt-append, turns_ended, turns-cons, turns-append}
 use Rattle.flex_base.proofs.Standing.{all_stand}
-use Rattle.flex_base.proofs.Going.{repeated-none, repeated-suc, below_most, rounds_end}
+use Rattle.flex_base.proofs.EndOfRun.{repeated-none, repeated-suc, below_most, rounds_end}
 use Rattle.flex_top.specs.Play.{IsAt, Comes, AtUnbuilt, AfterStep, IsStepped, Accesses, Finishes, IsDone, IsStuck, IsTurned, with_turns, Playing, IsReached}
 use Rattle.flex_top.specs.declared.player.Player.{Player}
 use Rattle.flex_top.specs.declared.player.Step.{Step}
@@ -135,7 +135,7 @@ playing_turn setup order done rest h player next playing below turned =
     }
 
 pub playing_stuck : (setup : Setup) (order done rest : List ℕ) (h pc : ℕ) (player : Player) → Playing setup order done (h ∷ rest) player → h < setup.harts
-    → first_unbuilt setup (reach setup (with_turns setup order done)) (turn_of setup (reach setup (with_turns setup order done)) h) ≡ Some pc → first_unbuilt setup (begin setup) (played setup order) ≡ Some pc
+    → first_unbuilt setup (reach setup (with_turns setup order done)) (turn_of setup (reach setup (with_turns setup order done)) h) ≡ Some pc → first_unbuilt setup (begin setup) (names_played setup order) ≡ Some pc
 playing_stuck setup order done rest h pc player playing below stuck =
     let names = with_turns setup order done in
     let u = reach setup names in
@@ -168,7 +168,7 @@ playing_rounds setup order player reached =
       built = ap (first_unbuilt setup (begin setup)) (sym names) ∙ reached.built;
     }
 
-pub played_stuck : (setup : Setup) (order : List ℕ) (pc : ℕ) → first_unbuilt setup (begin setup) order ≡ Some pc → first_unbuilt setup (begin setup) (played setup order) ≡ Some pc
+pub played_stuck : (setup : Setup) (order : List ℕ) (pc : ℕ) → first_unbuilt setup (begin setup) order ≡ Some pc → first_unbuilt setup (begin setup) (names_played setup order) ≡ Some pc
 played_stuck setup order pc stuck =
     first_unbuilt-append setup (begin setup) order (rounds setup (reach setup order))
     ∙ ap (λ o. first_of o (first_unbuilt setup (reach setup order) (rounds setup (reach setup order)))) stuck
@@ -215,14 +215,14 @@ below_rounds setup budget k some same below =
 -- The end.
 
 -- more rounds than the budget are all that there are, since they end the run
-pub played_all : (setup : Setup) (order : List ℕ) (j : ℕ) (rest : List ℕ) (player : Player) → setup.budget < j → Playing setup order (repeated j (hart_numbers setup)) rest player → IsReached setup (played setup order) player
+pub played_all : (setup : Setup) (order : List ℕ) (j : ℕ) (rest : List ℕ) (player : Player) → setup.budget < j → Playing setup order (repeated j (hart_numbers setup)) rest player → IsReached setup (names_played setup order) player
 played_all setup order j rest player past playing =
     let u = reach setup order in
     let done = repeated j (hart_numbers setup) in
     let names = with_turns setup order done in
     let both = first_none (first_unbuilt setup (begin setup) order) (first_unbuilt setup u (turns setup u done)) (sym (first_unbuilt-append setup (begin setup) order (turns setup u done)) ∙ playing.built) in
     let ended : has_ended setup (reach setup names) ≡ true = ap (has_ended setup) (sym (reach_turns setup order done)) ∙ rounds_end setup u j (all_stand setup order) (λ h below. past) both.1 in
-    let order_is : played setup order ≡ names = ap (with_turns setup order) (sym playing.all)
+    let order_is : names_played setup order ≡ names = ap (with_turns setup order) (sym playing.all)
     ∙ turns_more setup order done rest
     ∙ ap (λ ns. names ++ ns) (turns_ended setup (reach setup names) rest ended)
     ∙ append-nil names in

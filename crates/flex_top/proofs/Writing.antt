@@ -6,23 +6,24 @@ use Rattle.flex_base.specs.Setup.{Setup}
 use Rattle.flex_base.specs.FlatMemory.{byte}
 use Rattle.flex_base.specs.Classes.{default_plan}
 use Rattle.flex_base.specs.Unsplit.{Machine, begin, reach, has_ended}
-use Rattle.flex_base.specs.Rounds.{played}
+use Rattle.flex_base.specs.Rounds.{names_played}
 use Rattle.flex_base.specs.Built.{first_unbuilt}
-use Rattle.flex_base.specs.Split.{Parted, Plan, parted, unparted}
+use Rattle.flex_base.specs.Split.{Splitting, Plan, split_run, first_split}
 use Rattle.flex_base.specs.Journal.{console}
 use Rattle.flex_base.specs.declared.event.Event.{Event}
-use Rattle.flex_base.proofs.Orders.{reach-order_of, split_legal, split_obeys}
-use Rattle.flex_base.proofs.Going.{run_goes_on}
-use Rattle.flex_base.proofs.Quiet.{console_built}
-use Rattle.flex_top.specs.Answer.{journal_of, trace_of, IsWhole}
+use Rattle.flex_base.proofs.Orders.{reach-order_of, split_legal}
+use Rattle.flex_base.proofs.Obeying.{split_obeys}
+use Rattle.flex_base.proofs.EndOfRun.{run_goes_on}
+use Rattle.flex_base.proofs.Quiet.{console_quiet}
+use Rattle.flex_top.specs.Answer.{journal_of, trace_of, EndsWhole}
 use Rattle.flex_top.specs.Play.{IsReached}
 use Rattle.flex_top.specs.Trace.{settings_of, ram_bytes, tail_of, whole_text, trace_text}
 use Rattle.flex_top.specs.declared.player.Player.{Player}
 use Rattle.flex_top.specs.declared.text.tail_text.TailLine.{TailLine}
 
-pub parted_none : (plan : Plan) (harts : ℕ) → parted plan harts [] ≡ unparted plan harts
-unfolding parted
-parted_none plan harts = refl
+pub split_none : (plan : Plan) (harts : ℕ) → split_run plan harts [] ≡ first_split plan harts
+unfolding split_run
+split_none plan harts = refl
 
 -- the bytes of RAM, as the bank's contract says them
 pub ram_is : (setup : Setup) (u : Machine) (bytes : List ℕ) → bytes ≡ map (λ i. byte setup.image u.ram (ram_base + i)) (range_with_len 0 setup.ram) → bytes ≡ ram_bytes setup u
@@ -30,25 +31,25 @@ unfolding ram_bytes
 ram_is setup u bytes same = same
 
 -- the trace of a run, by what the player keeps
-pub trace_is : (setup : Setup) (order : List ℕ) (player : Player) (events : List Event) (tail : List TailLine) → IsReached setup (played setup order) player
-    → events ≡ player.run.events.items → tail ≡ tail_of setup (reach setup (played setup order))
+pub trace_is : (setup : Setup) (order : List ℕ) (player : Player) (events : List Event) (tail : List TailLine) → IsReached setup (names_played setup order) player
+    → events ≡ player.run.events.items → tail ≡ tail_of setup (reach setup (names_played setup order))
     → trace_of setup order ≡ whole_text (settings_of setup) events tail
 unfolding trace_of trace_text journal_of
 trace_is setup order player events tail done same_events same_tail =
-    ap (λ m. whole_text (settings_of setup) (journal_of setup order) (tail_of setup m)) (reach-order_of setup default_plan (played setup order))
+    ap (λ m. whole_text (settings_of setup) (journal_of setup order) (tail_of setup m)) (reach-order_of setup default_plan (names_played setup order))
     ∙ ap (whole_text (settings_of setup) (journal_of setup order)) (sym same_tail)
-    ∙ ap (λ es. whole_text (settings_of setup) es tail) (ap (λ (p : Parted). p.events) done.at.run ∙ sym same_events)
+    ∙ ap (λ es. whole_text (settings_of setup) es tail) (ap (λ (p : Splitting). p.events) done.at.run ∙ sym same_events)
 
 -- a run of which all is built is whole
-pub built_whole : (setup : Setup) (order : List ℕ) → first_unbuilt setup (begin setup) (played setup order) ≡ None → IsWhole setup order
+pub built_whole : (setup : Setup) (order : List ℕ) → EndsWhole setup order
 unfolding journal_of
-built_whole setup order built = record {
-  legal = split_legal setup default_plan (played setup order);
-  obeys = split_obeys setup default_plan (played setup order);
-  ended = ap (has_ended setup) (reach-order_of setup default_plan (played setup order)) ∙ (run_goes_on setup order).ends built;
-}
+built_whole setup order = record { whole = λ built. record {
+  legal = split_legal setup default_plan (names_played setup order);
+  obeys = split_obeys setup default_plan (names_played setup order);
+  ended = ap (has_ended setup) (reach-order_of setup default_plan (names_played setup order)) ∙ (run_goes_on setup order).ends built;
+} }
 
--- it sends nothing to the console
-pub built_quiet : (setup : Setup) (order : List ℕ) → first_unbuilt setup (begin setup) (played setup order) ≡ None → console (journal_of setup order) ≡ []
+-- no run sends anything to the console so far
+pub run_quiet : (setup : Setup) (order : List ℕ) → console (journal_of setup order) ≡ []
 unfolding journal_of
-built_quiet setup order built = console_built setup default_plan (played setup order) built
+run_quiet setup order = console_quiet setup default_plan (names_played setup order)

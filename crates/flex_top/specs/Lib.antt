@@ -9,4 +9,6 @@ pub mod Splitting
 pub mod Play
 pub mod Status
 pub mod Answer
+pub mod Does
+pub mod Refusal
 pub mod Ready

@@ -3,20 +3,21 @@ use Rattle.std.specs.Prelude.{◌≡◌, ℕ, ◌<◌, ◌≤◌, List, [], ◌�
 use Rattle.flex_base.specs.Setup.{Setup}
 use Rattle.flex_base.specs.State.{start}
 use Rattle.flex_base.specs.Classes.{default_plan}
-use Rattle.flex_base.specs.Unsplit.{Machine, half_at, begin, step, reach, reach_from, is_spent, hart_numbers}
-use Rattle.flex_base.specs.Rounds.{turn_of, turns, repeated, most_rounds, played}
+use Rattle.flex_base.specs.Unsplit.{Machine, instruction_at, begin, step, reach, reach_from, hart_numbers}
+use Rattle.flex_base.specs.DevicesSoFar.{is_spent}
+use Rattle.flex_base.specs.Rounds.{turn_of, turns, repeated, most_rounds}
 use Rattle.flex_base.specs.Built.{unbuilt_at, first_unbuilt}
-use Rattle.flex_base.specs.Split.{parted, unparted}
+use Rattle.flex_base.specs.Split.{split_run, first_split}
 use Rattle.flex_base.specs.declared.settings.Layout.{Layout}
 use Rattle.flex_base.specs.declared.settings.Settings.{Settings}
 use Rattle.hart_story.specs.StandsFor.{StandsFor}
-use Rattle.hart_story.specs.Progressing.{IsIn, is_retired, left}
+use Rattle.hart_story.specs.Progress.{IsIn, is_done, left}
 use Rattle.hart_story.specs.declared.hart.Hart.{Hart}
 use Rattle.hart_story.specs.declared.progress.Progress.{Progress}
 use Rattle.hart_story.specs.declared.progress.Progress.TheVariants as progress
 use Rattle.mem_lines.specs.Bank.{Bank}
 use Rattle.flex_top.specs.Memory.{Keeps}
-use Rattle.flex_top.specs.Splitting.{parted_by}
+use Rattle.flex_top.specs.Splitting.{splitting_of}
 use Rattle.flex_top.specs.Trace.{settings_of}
 use Rattle.flex_top.specs.declared.player.Player.{Player}
 use Rattle.flex_top.specs.declared.player.Step.{Step}
@@ -33,8 +34,8 @@ layout_of settings = record { harts = settings.harts; ram = settings.ram }
 
 -- a hart and its progress stand for the hart of this number
 pub record IsHart (setup : Setup) (u : Machine) (h : ℕ) (hart : Hart) (progress : Progress) : Type 0 where
-  pub in_story : IsIn setup (half_at u h).state (half_at u h).replies hart progress (layout_of (settings_of setup)) setup.budget
-  pub spent : is_spent u.devices h ≡ is_retired progress
+  pub in_story : IsIn setup (instruction_at u h) hart progress (layout_of (settings_of setup)) setup.budget
+  pub spent : is_spent u.devices h ≡ is_done progress
 
 -- the player stands for this state of the machine
 pub record IsAt (setup : Setup) (u : Machine) (player : Player) : Type 0 where
@@ -45,8 +46,9 @@ pub record IsAt (setup : Setup) (u : Machine) (player : Player) : Type 0 where
   pub harts : length player.harts.items ≡ setup.harts
   pub progress : length player.progress.items ≡ setup.harts
   pub engines : length player.run.engines.items ≡ setup.harts
-  pub each : (h : ℕ) (other : Hart) → h < setup.harts → IsHart setup u h (slice_index_or player.harts.items h other) (progress_at player h)
-  pub run : parted default_plan setup.harts u.events ≡ parted_by player.run
+  pub each : (h : ℕ) (other : Hart) → h < setup.harts
+      → IsHart setup u h (slice_index_or player.harts.items h other) (progress_at player h)
+  pub run : split_run default_plan setup.harts u.events ≡ splitting_of player.run
   pub memory : Keeps setup u.ram player.lines
 
 -- of a call that was stuck, what holds of the pc of the event that isn't built; of want of memory nothing
@@ -105,7 +107,8 @@ IsNearer h other old new = Unit {0}
 abbrev pub with_turns : Setup → List ℕ → List ℕ → List ℕ
 with_turns setup order done = order ++ turns setup (reach setup order) done
 
--- of the rounds that follow the order, the turns of some harts are made and those of the rest are to come; what is made is built
+-- of the rounds that follow the order, the turns of some harts are made and those of the rest are to come; what is made
+-- is built
 pub record Playing (setup : Setup) (order done rest : List ℕ) (player : Player) : Type 0 where
   pub all : done ++ rest ≡ repeated (most_rounds setup) (hart_numbers setup)
   pub at : IsAt setup (reach setup (with_turns setup order done)) player
@@ -126,5 +129,5 @@ pub record IsStarted (player : Player) (settings : Settings) (entry : ℕ) (bank
   pub settings_is : player.settings ≡ settings
   pub harts : AreStarted entry settings.harts player.harts.items
   pub progress : (length player.progress.items ≡ settings.harts) × ((h : ℕ) → progress_at player h ≡ progress.Begun)
-  pub run : parted_by player.run ≡ unparted default_plan settings.harts
+  pub run : splitting_of player.run ≡ first_split default_plan settings.harts
   pub lines : player.lines ≡ bank

@@ -30,7 +30,8 @@ of_hart h = codes "hart " ++ decimal h
 
 -- a hart's ends, mode and pc
 unfoldable pub state_text : ℕ → ℕ → Mode → ℕ → List ℕ
-state_text h ends mode pc = of_hart h ++ codes " ends " ++ decimal ends ++ codes " mode " ++ mode_text mode ++ codes " pc " ++ hex pc ++ codes "\n"
+state_text h ends mode pc = of_hart h ++ codes " ends " ++ decimal ends ++ codes " mode " ++ mode_text mode
+    ++ codes " pc " ++ hex pc ++ codes "\n"
 
 -- a register and its value
 unfoldable pub register_text : ℕ → ℕ → ℕ → List ℕ

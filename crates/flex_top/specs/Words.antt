@@ -8,8 +8,8 @@ use Rattle.flex_top.specs.declared.words.Command.{Command}
 use Rattle.flex_top.specs.declared.words.Given.{Given}
 use Rattle.flex_top.specs.declared.words.Given.TheVariants as as_given
 
--- what `solo` is asked to do: the names of the image and the trace, the settings, and the harts that make the next events
--- before the rounds
+-- what `solo` is asked to do: the names of the image and the trace, the settings, and the harts that make the next
+-- events before the rounds
 pub record Reading : Type 0 where
   pub image : List ℕ
   pub trace : List ℕ
@@ -74,29 +74,42 @@ order_option words = given [] order (values (codes "--order=") words)
 
 -- a word that begins with the text of one of the options
 abbrev pub is_option : List ℕ → Bool
-is_option word = starts_with nat_eq word (codes "--harts=") || starts_with nat_eq word (codes "--ram=") || starts_with nat_eq word (codes "--budget=") || starts_with nat_eq word (codes "--order=")
+is_option word = starts_with nat_eq word (codes "--harts=") || starts_with nat_eq word (codes "--ram=")
+    || starts_with nat_eq word (codes "--budget=") || starts_with nat_eq word (codes "--order=")
+
+abbrev pub sized : ℕ → ℕ → ℕ → Settings
+sized harts ram budget = record { harts = harts; ram = ram; budget = budget }
 
 -- all harts together make at most 262,144 ends
 abbrev pub reading_of : List ℕ → List ℕ → Option ℕ → Option ℕ → Option ℕ → Option (List ℕ) → Option Reading
 reading_of image trace (Some harts) (Some mebibytes) (Some budget) (Some order) = if nat_le (harts * budget) 262144
-    then Some (record { image = image; trace = trace; settings = record { harts = harts; ram = mebibyte * mebibytes; budget = budget }; order = order }) else None
+    then Some (record { image = image; trace = trace; settings = sized harts (mebibyte * mebibytes) budget; order = order })
+    else None
 reading_of image trace harts mebibytes budget order = None
 
 -- the options in any order: 1 hart, 16 MiB, 8,192 ends and no order where they aren't given
 abbrev pub with_options : List ℕ → List ℕ → List (List ℕ) → Option Reading
-with_options image trace words = reading_of image trace (number_option (codes "--harts=") 1 32 words) (number_option (codes "--ram=") 16 256 words) (number_option (codes "--budget=") 8192 262144 words) (order_option words)
+with_options image trace words = reading_of image trace (number_option (codes "--harts=") 1 32 words)
+    (number_option (codes "--ram=") 16 256 words)
+    (number_option (codes "--budget=") 8192 262144 words) (order_option words)
 
 abbrev pub is_solo : List ℕ → List ℕ → List ℕ → Bool
 is_solo command image trace = bytes_eq command (codes "solo") && is_name image && is_name trace
 
 -- the word `solo`, two names, and the options
 abbrev pub reading : List (List ℕ) → Option Reading
-reading (command ∷ image ∷ trace ∷ rest) = if is_solo command image trace && list_all is_option rest then with_options image trace rest else None
+reading (command ∷ image ∷ trace ∷ rest) =
+    if is_solo command image trace && list_all is_option rest then with_options image trace rest else None
 reading other = None
 
 -- a command of the code, as its reading
 abbrev pub reading_of_command : Command → Reading
-reading_of_command command = record { image = command.image.now; trace = command.trace.now; settings = command.settings; order = map hart_of command.order.now }
+reading_of_command command = record {
+  image = command.image.now;
+  trace = command.trace.now;
+  settings = command.settings;
+  order = map hart_of command.order.now;
+}
 
 -- what the code finds of an option is what its values are
 abbrev pub IsGiven : List (List ℕ) → Given → Type 0

@@ -1,31 +1,38 @@
-ghost use Rattle.std.specs.Prelude.{◌≡◌, ◌<◌, true, ◌⊎◌, Ok, Err, IfOk, IfErr};
+ghost use Rattle.std.specs.Prelude.{◌≡◌, ◌<◌, true, Ok, IfOk, IfErr};
 ghost use Rattle.flex_base.specs.Loaded.{image_fits};
 ghost use Rattle.flex_top.specs.Answer.{is_elf, raw, loaded};
+ghost use Rattle.flex_top.specs.Refusal.{IsRefused};
 
-use crate::status::{ImageFault, Status};
 use flex_base::{Image, RAM_BASE};
 use std::alloc::{AllocError, Global};
 
-/// The image that the bytes of a file are, in so many bytes of RAM.
-///
-/// A raw file, which doesn't begin with the ELF magic, stands at the beginning of RAM, and the
-/// harts begin there. The error is the status: ELF files aren't built, a raw file may be longer than
-/// RAM, and memory may run out.
-pub(crate) fn image_of(alloc: Global, file: Vec<u8>, ram: u64) -> Result<Image, Status>
+/// Why there is no image of a file.
+#[derive(Clone, Copy)]
+pub(crate) enum Refusal {
+    /// It begins with the ELF magic, and ELF files aren't built.
+    Elf,
+    /// It is a raw file that is longer than RAM.
+    OutsideRam,
+    OutOfMemory,
+}
+
+/// The image that the bytes of a file are, in so many bytes of RAM. A raw file stands at the
+/// beginning of RAM, and the harts begin there.
+pub(crate) fn image_of(alloc: Global, file: Vec<u8>, ram: u64) -> Result<Image, Refusal>
     requires { 0 < ram }
     ensures image { IfOk result (λ image. loaded file.items ram ≡ Ok image) }
     ensures fits { IfOk result (λ image. image_fits ram image ≡ true) }
-    ensures refused { IfErr result (λ status. (status ≡ Status.OutOfMemory) ⊎ (loaded file.items ram ≡ Err status)) }
+    ensures refused { IfErr result (λ why. IsRefused (loaded file.items ram) why) }
 {
     if is_elf(&file) {
-        return Err(Status::Unbuilt(None));
+        return Err(Refusal::Elf);
     }
     if file.len() as u64 > ram {
-        return Err(Status::ImageRefused(ImageFault::SegmentOutsideRam(0)));
+        return Err(Refusal::OutsideRam);
     }
     match raw_image(alloc, file) {
         Ok(image) => Ok(image),
-        Err(_) => Err(Status::OutOfMemory),
+        Err(_) => Err(Refusal::OutOfMemory),
     }
 }
 

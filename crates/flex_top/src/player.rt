@@ -2,7 +2,7 @@ ghost use Rattle.std.specs.Prelude.{◌≡◌, ◌++◌, ◌<◌, ◌≤◌, ◌
 ghost use Rattle.std.specs.List.{list_all};
 ghost use Rattle.flex_base.specs.Setup.{Setup};
 ghost use Rattle.flex_base.specs.Unsplit.{Machine, begin, hart_numbers};
-ghost use Rattle.hart_story.specs.Progressing.{is_retired};
+ghost use Rattle.hart_story.specs.Progress.{is_done};
 ghost use Rattle.flex_top.specs.Play.{AreStarted};
 ghost use Rattle.flex_top.specs.declared.player.Stuck.TheVariants as stuck;
 
@@ -54,8 +54,8 @@ impl From<AllocError> for Stuck {
 }
 
 impl Player {
-    ghost use Rattle.flex_base.specs.Unsplit.{stop_of};
-    ghost use Rattle.flex_base.specs.Rounds.{turn_of, played};
+    ghost use Rattle.flex_base.specs.DevicesSoFar.{stop_of};
+    ghost use Rattle.flex_base.specs.Rounds.{turn_of, names_played};
     ghost use Rattle.flex_base.specs.Built.{unbuilt_at, first_unbuilt};
     ghost use Rattle.std.specs.Prelude.{Some};
     ghost use Rattle.flex_top.specs.Trace.{tail_of};
@@ -89,8 +89,8 @@ impl Player {
         requires few { self.old.settings.budget < 2 ^ 32 }
         requires at { (setup : Setup) × IsAt setup (begin setup) self.old }
         ensures { (setup : Setup) → IsAt setup (begin setup) self.old → Comes result
-            (λ done. IsReached setup (played setup order.now) self.new)
-            (λ pc. first_unbuilt setup (begin setup) (played setup order.now) ≡ Some pc) }
+            (λ done. IsReached setup (names_played setup order.now) self.new)
+            (λ pc. first_unbuilt setup (begin setup) (names_played setup order.now) ≡ Some pc) }
     {
         self.follow(order)?;
         'rounds: for _ in 0..self.settings.budget + 1 {
@@ -109,9 +109,9 @@ impl Player {
 
     // Why the run has ended, where it has.
     fn stop(&self) -> Option<Stop>
-        ensures { (setup : Setup) (u : Machine) → IsAt setup u self.now → result ≡ stop_of setup u }
+        ensures { (setup : Setup) (u : Machine) → IsAt setup u self.now → result ≡ stop_of setup.harts u.devices }
     {
-        if all_retired(&self.progress) {
+        if all_done(&self.progress) {
             Some(Stop::Budget)
         } else {
             None
@@ -147,9 +147,10 @@ impl Player {
     fn round(&mut self) -> Result<(), Stuck>
         requires { (setup : Setup) × (order : List ℕ) × (done : List ℕ) × (rest : List ℕ)
             × Playing setup order done (hart_numbers setup ++ rest) self.old }
-        ensures { (setup : Setup) (order done rest : List ℕ) → Playing setup order done (hart_numbers setup ++ rest) self.old → Comes result
+        ensures { (setup : Setup) (order done rest : List ℕ)
+            → Playing setup order done (hart_numbers setup ++ rest) self.old → Comes result
             (λ round. Playing setup order (done ++ hart_numbers setup) rest self.new)
-            (λ pc. first_unbuilt setup (begin setup) (played setup order) ≡ Some pc) }
+            (λ pc. first_unbuilt setup (begin setup) (names_played setup order) ≡ Some pc) }
     {
         for h in 0..self.harts.len() {
             self.turn(h)?;
@@ -222,14 +223,14 @@ fn started(alloc: Global, count: u8, entry: u64) -> Result<Vec<Hart>, AllocError
     Ok(harts)
 }
 
-fn all_retired(progress: &[Progress]) -> bool
-    ensures { result ≡ list_all is_retired progress.now }
+fn all_done(progress: &[Progress]) -> bool
+    ensures { result ≡ list_all is_done progress.now }
 {
-    progress.iter().all(|p| is_retired(p))
+    progress.iter().all(|p| is_done(p))
 }
 
-fn is_retired(progress: &Progress) -> bool
-    ensures { result ≡ is_retired progress.now }
+fn is_done(progress: &Progress) -> bool
+    ensures { result ≡ is_done progress.now }
 {
-    matches!(progress, Progress::Retired)
+    matches!(progress, Progress::Over)
 }

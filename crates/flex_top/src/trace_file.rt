@@ -1,6 +1,6 @@
 ghost use Rattle.std.specs.Prelude.{◌≡◌, ℕ, List, OnOk, OnErr, IsErr};
 ghost use Rattle.std.specs.List.{flat_map};
-ghost use Rattle.flex_base.specs.Files.{Counts, ChangesFile};
+ghost use Rattle.flex_base.specs.Outside.{OnlyWrites, Writes};
 ghost use Rattle.flex_top.specs.Trace.{whole_text};
 ghost use Rattle.flex_top.specs.Written.{Passes, PassesPart, Becomes, BecomesPart};
 
@@ -50,13 +50,11 @@ pub fn write_trace<O: Outer>(
     events: &[Event],
     tail: &[TailLine],
 ) -> Result<(), Failed>
-    ensures ok { OnOk result (ChangesFile (O.written outer.old) (O.written outer.new) name.now (Becomes (whole_text settings.now events.now tail.now))) }
-    ensures err { OnErr result (ChangesFile (O.written outer.old) (O.written outer.new) name.now (BecomesPart (whole_text settings.now events.now tail.now))) }
-    ensures cause { Counts (O.write_faults outer.old) (O.write_faults outer.new) (IsErr result) }
-
-    ensures read_faults { O.read_faults outer.new ≡ O.read_faults outer.old }
-    ensures held { O.held outer.new ≡ O.held outer.old }
-    ensures said { O.said outer.new ≡ O.said outer.old }
+    ensures ok { OnOk result (Writes (O.outside outer.old) (O.outside outer.new) name.now
+        (Becomes (whole_text settings.now events.now tail.now))) }
+    ensures err { OnErr result (Writes (O.outside outer.old) (O.outside outer.new) name.now
+        (BecomesPart (whole_text settings.now events.now tail.now))) }
+    ensures frame { OnlyWrites (O.outside outer.old) (O.outside outer.new) (IsErr result) }
 {
     outer.start(name)?;
     pieces.clear();
@@ -75,13 +73,11 @@ fn add_lines<O: Outer, L: AsLine>(
     pieces: &mut Pieces,
     lines: &[L],
 ) -> Result<(), Failed>
-    ensures ok { OnOk result (Passes (O.written outer.old) (O.written outer.new) name.now pieces.old pieces.new (flat_map L.text lines.now)) }
-    ensures err { OnErr result (PassesPart (O.written outer.old) (O.written outer.new) name.now pieces.old (flat_map L.text lines.now)) }
-    ensures cause { Counts (O.write_faults outer.old) (O.write_faults outer.new) (IsErr result) }
-
-    ensures read_faults { O.read_faults outer.new ≡ O.read_faults outer.old }
-    ensures held { O.held outer.new ≡ O.held outer.old }
-    ensures said { O.said outer.new ≡ O.said outer.old }
+    ensures ok { OnOk result (Passes (O.outside outer.old) (O.outside outer.new) name.now
+        pieces.old pieces.new (flat_map L.text lines.now)) }
+    ensures err { OnErr result (PassesPart (O.outside outer.old) (O.outside outer.new) name.now
+        pieces.old (flat_map L.text lines.now)) }
+    ensures frame { OnlyWrites (O.outside outer.old) (O.outside outer.new) (IsErr result) }
 {
     let mut line = Line::new();
     for item in lines {

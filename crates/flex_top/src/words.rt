@@ -84,7 +84,8 @@ fn is_option(word: &[u8]) -> bool
 }
 
 fn with_options<'a>(image: &'a str, trace: &'a str, words: &'a [String]) -> Option<Command<'a>>
-    ensures reading { option_map reading_of_command result ≡ with_options image.now trace.now (map string_bytes words.now) }
+    ensures reading { option_map reading_of_command result
+        ≡ with_options image.now trace.now (map string_bytes words.now) }
     ensures limits { IfSome result IsLimited }
 {
     let harts = number_option(b"--harts=", 1, 32, words)?;

@@ -1,47 +1,37 @@
-use Rattle.std.proofs.Common.{◌≡◌, ℕ, List, ◌∷◌, ◌∙◌, refl}
+use Rattle.std.proofs.Common.{◌∙◌}
 use Rattle.std.proofs.lemmas.List.{append-nil}
-use Rattle.flex_base.specs.declared.event.Event.{Event}
-use Rattle.flex_base.specs.declared.settings.Settings.{Settings}
-use Rattle.flex_top.specs.EventText.{header_text}
 use Rattle.flex_top.specs.Trace.{whole_text}
-use Rattle.flex_top.specs.declared.text.tail_text.TailLine.{TailLine}
 use Rattle.flex_top.proofs.Growth.{on_err, becomes, becomes_part, passes_on, part_on, part_more}
 use Rattle.flex_top.proofs.trace_file.write_trace.Goals as goal
-
--- a trace begins with the `t` of `trace`
-begins : (settings : Settings) (events : List Event) (tail : List TailLine) → (rest : List ℕ) × (whole_text settings events tail ≡ 116 ∷ rest)
-unfolding header_text whole_text
-begins settings events tail = (_, refl)
 
 pub returns-in_err-add-clause-err : goal.returns-in_err-add-clause-err
 unfolding whole_text
 returns-in_err-add-clause-err g c =
     let header = rw (c.clear.ensures, c.bytes.ensures.value ∙ c.header_line.ensures) at c.in_err-add.ensures.err in
-    on_err _ (becomes_part _ _ _ _ _ c.in_ok-start.ensures.ok (part_more _ _ _ _ _ _ (part_more _ _ _ _ _ _ header)))
+    on_err _ (becomes_part (g.O.Outer.outside c.args.outer.now) _ _ _ _ c.in_ok-start.ensures.ok (part_more _ _ _ _ _ _ (part_more _ _ _ _ _ _ header)))
 
 pub returns-in_err-add_lines-clause-err : goal.returns-in_err-add_lines-clause-err
 unfolding whole_text
 returns-in_err-add_lines-clause-err g c =
     let header = rw (c.clear.ensures, c.bytes.ensures.value ∙ c.header_line.ensures) at c.in_ok-add.ensures.ok in
-    on_err _ (becomes_part _ _ _ _ _ c.in_ok-start.ensures.ok (part_more _ _ _ _ _ _ (part_on _ _ _ _ _ _ _ _ header c.in_err-add_lines.ensures.err)))
+    on_err _ (becomes_part (g.O.Outer.outside c.args.outer.now) _ _ _ _ c.in_ok-start.ensures.ok (part_more _ _ _ _ _ _ (part_on _ _ _ _ _ _ _ _ header c.in_err-add_lines.ensures.err)))
 
 pub returns-in_err-add_lines-2-clause-err : goal.returns-in_err-add_lines-2-clause-err
 unfolding whole_text
 returns-in_err-add_lines-2-clause-err g c =
     let header = rw (c.clear.ensures, c.bytes.ensures.value ∙ c.header_line.ensures) at c.in_ok-add.ensures.ok in
-    on_err _ (becomes_part _ _ _ _ _ c.in_ok-start.ensures.ok (part_on _ _ _ _ _ _ _ _ (passes_on _ _ _ _ _ _ _ _ _ header c.in_ok-add_lines.ensures.ok) c.in_err-add_lines-2.ensures.err))
+    on_err _ (becomes_part (g.O.Outer.outside c.args.outer.now) _ _ _ _ c.in_ok-start.ensures.ok (part_on _ _ _ _ _ _ _ _ (passes_on _ _ _ _ _ _ _ _ _ header c.in_ok-add_lines.ensures.ok) c.in_err-add_lines-2.ensures.err))
 
 pub returns-in_err-flush-clause-err : goal.returns-in_err-flush-clause-err
 unfolding whole_text
 returns-in_err-flush-clause-err g c =
     let header = rw (c.clear.ensures, c.bytes.ensures.value ∙ c.header_line.ensures) at c.in_ok-add.ensures.ok in
     let lines = passes_on _ _ _ _ _ _ _ _ _ (passes_on _ _ _ _ _ _ _ _ _ header c.in_ok-add_lines.ensures.ok) c.in_ok-add_lines-2.ensures.ok in
-    on_err _ (becomes_part _ _ _ _ _ c.in_ok-start.ensures.ok (rw append-nil at (part_on _ _ _ _ _ _ _ _ lines c.in_err-flush.ensures.err)))
+    on_err _ (becomes_part (g.O.Outer.outside c.args.outer.now) _ _ _ _ c.in_ok-start.ensures.ok (rw append-nil at (part_on _ _ _ _ _ _ _ _ lines c.in_err-flush.ensures.err)))
 
 pub returns-clause-ok : goal.returns-clause-ok
 unfolding whole_text
 returns-clause-ok g c =
     let header = rw (c.clear.ensures, c.bytes.ensures.value ∙ c.header_line.ensures) at c.in_ok-add.ensures.ok in
     let lines = passes_on _ _ _ _ _ _ _ _ _ (passes_on _ _ _ _ _ _ _ _ _ header c.in_ok-add_lines.ensures.ok) c.in_ok-add_lines-2.ensures.ok in
-    let first = begins c.args.settings.now c.args.events.now c.args.tail.now in
-    becomes _ _ _ _ _ _ _ first.0 _ first.1 c.in_ok-start.ensures.ok lines c.in_ok-flush.ensures.ok
+    becomes (g.O.Outer.outside c.args.outer.now) _ _ (g.O.Outer.outside c.flush.new.outer) _ _ _ c.in_ok-start.ensures.ok lines c.in_ok-flush.ensures.ok

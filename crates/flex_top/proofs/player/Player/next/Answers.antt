@@ -16,7 +16,7 @@ pub returns-in_err-step : goal.returns-in_err-step
 returns-in_err-step c = λ setup u at. stuck_from c.from_residual.result _ _ _ _ (err_from_is_err_and c.from_residual.result c.from_residual.ensures.1) (λ pc (stuck : IsStuck setup u c.args.h pc). stuck.unbuilt) (c.in_err-step.ensures.after setup u at)
 
 pub returns-in_ok-step : goal.returns-in_ok-step
-returns-in_ok-step c = λ setup u at. stepped setup u c.args.h c.in_ok-step.field-0.0 c.step.new.self (c.in_ok-step.ensures.after setup u at)
+returns-in_ok-step c = λ setup u at. stepped setup u c.args.h c.in_ok-step.field-0 c.step.new.self (c.in_ok-step.ensures.after setup u at)
 
 pub returns-else-h-len : goal.returns-else-h-len
 returns-else-h-len c = λ setup u at.

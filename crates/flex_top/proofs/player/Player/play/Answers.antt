@@ -4,7 +4,7 @@ use Rattle.flex_base.specs.Setup.{Setup}
 use Rattle.flex_base.specs.Unsplit.{Machine, begin, reach, hart_numbers}
 use Rattle.std.proofs.lemmas.Result.{err_from_is_err_and}
 use Rattle.flex_base.specs.Built.{first_unbuilt}
-use Rattle.flex_base.specs.Rounds.{repeated, most_rounds, played}
+use Rattle.flex_base.specs.Rounds.{repeated, most_rounds, names_played}
 use Rattle.flex_base.specs.declared.settings.Settings.{Settings}
 use Rattle.flex_top.specs.Play.{IsAt}
 use Rattle.flex_top.specs.declared.player.Player.{Player}
@@ -44,7 +44,7 @@ returns-in_err-round c = λ setup at.
     let below : k < most_rounds setup = below_rounds setup c.follow.new.self.settings.budget k reached.at.some (budget_is setup (reach setup order) c.follow.new.self reached.at) c.rounds-test.true in
     let numbers = hart_numbers setup in
     let rest = repeated (most_rounds setup - (k + 1)) numbers in
-    stuck_from c.from_residual-in_err-round.result _ _ _ _ (err_from_is_err_and c.from_residual-in_err-round.result c.from_residual-in_err-round.ensures.1) (λ pc (stuck : first_unbuilt setup (begin setup) (played setup order) ≡ Some pc). stuck)
+    stuck_from c.from_residual-in_err-round.result _ _ _ _ (err_from_is_err_and c.from_residual-in_err-round.result c.from_residual-in_err-round.ensures.1) (λ pc (stuck : first_unbuilt setup (begin setup) (names_played setup order) ≡ Some pc). stuck)
     (c.in_err-round.ensures setup order (repeated k numbers) rest (playing_round setup order k c.rounds.self below (c.rounds.invariant setup at)))
 
 pub rounds-preserved : goal.rounds-preserved
