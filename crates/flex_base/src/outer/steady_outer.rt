@@ -1,7 +1,7 @@
 ghost use Rattle.std.specs.Prelude.{◌≡◌, None, Some};
 ghost use Rattle.flex_base.specs.FilesInMemory.{files_or_empty, entries_of};
 
-use crate::memory_files::{copy, find};
+use super::memory_files::{copy, find};
 use crate::outer::{Failed, Outer, TakeFault};
 use crate::text::Text;
 use std::alloc::Global;

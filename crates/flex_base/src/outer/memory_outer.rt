@@ -5,8 +5,8 @@ ghost use Rattle.flex_base.specs.Outside.{OnlyReads, OnlyWrites, OnlySays};
 ghost use Rattle.flex_base.specs.FilesInMemory.{files_of, entries_of, is_due, one_more};
 ghost use Rattle.flex_base.specs.OuterInMemory.{outside_of, held_files, written_files, said_bytes, calls_made, failing_calls, fails_next, MadeOneCall};
 
-use crate::counts::rise;
-use crate::memory_files::{append, copy, find, look, make_empty};
+use super::counts::rise;
+use super::memory_files::{append, copy, find, look, make_empty};
 use crate::outer::{Failed, Outer, TakeFault};
 use crate::text::Text;
 use std::alloc::Global;

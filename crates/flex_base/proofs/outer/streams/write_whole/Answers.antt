@@ -1,8 +1,8 @@
 use Rattle.std.proofs.Common.{arith}
 use Rattle.std.proofs.KnownBytes.{Appends-kept}
 use Rattle.flex_base.proofs.KnownBytes.{written_on}
-use Rattle.flex_base.proofs.streams.write_whole.Goals as goal
-use Rattle.flex_base.proofs.streams.write_whole.Goals.{in-Ok, in-Err+else-ne}
+use Rattle.flex_base.proofs.outer.streams.write_whole.Goals as goal
+use Rattle.flex_base.proofs.outer.streams.write_whole.Goals.{in-Ok, in-Err+else-ne}
 
 pub writes-preserved : goal.writes-preserved
 writes-preserved g c =

@@ -1,6 +1,6 @@
 use Rattle.std.proofs.Common.{arith}
 use Rattle.std.proofs.lemmas.Map.Text.{text_keys}
-use Rattle.flex_base.proofs.memory_files.append.Goals as goal
+use Rattle.flex_base.proofs.outer.memory_files.append.Goals as goal
 
 pub returns-in-Ok-clause-others : goal.returns-in-Ok-clause-others
 returns-in-Ok-clause-others c = λ other differs. grind (arith, text_keys)

@@ -1,6 +1,6 @@
 use Rattle.std.proofs.Common.{◌≡◌, drop}
 use Rattle.flex_base.specs.FilesInMemory.{files_of, entries_of}
-use Rattle.flex_base.proofs.memory_files.find.Given as goal
+use Rattle.flex_base.proofs.outer.memory_files.find.Given as goal
 
 abbrev pub invariant-loop-file : goal.invariant-loop-file
 invariant-loop-file l =

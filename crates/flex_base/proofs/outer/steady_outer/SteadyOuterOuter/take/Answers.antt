@@ -1,6 +1,6 @@
 use Rattle.std.proofs.Common.{rules}
 use Rattle.flex_base.specs.FilesInMemory.{files_or_empty, entries_of}
-use Rattle.flex_base.proofs.steady_outer.SteadyOuterOuter.take.Goals as goal
+use Rattle.flex_base.proofs.outer.steady_outer.SteadyOuterOuter.take.Goals as goal
 
 pub returns-in-Some-clause-taken : goal.returns-in-Some-clause-taken
 returns-in-Some-clause-taken c =
