@@ -12,6 +12,7 @@ mod engine;
 mod event;
 mod gate;
 mod hart;
+mod hart_device;
 mod image;
 mod line;
 mod memory_files;
@@ -32,6 +33,7 @@ pub use engine::Engine;
 pub use event::{EndPart, Event, Stop, What};
 pub use gate::{Gate, OpenGate, Point};
 pub use hart::{HartId, Mode};
+pub use hart_device::{HartDevice, HartStanding};
 pub use image::Image;
 pub use line::Line;
 pub use memory_outer::MemoryOuter;
@@ -39,7 +41,9 @@ pub use operation::{AluOp, AmoOp, BranchOp, CsrOp, MulOp, Op};
 pub use outer::{Failed, Outer, TakeFault};
 pub use real_outer::RealOuter;
 pub use reservation::{reservation_set, is_reserved};
-pub use settings::{Layout, Place, RAM_BASE, Settings};
+pub use settings::{
+    FINISHER, Layout, MSIP, MTIME, MTIMECMP, Place, RAM_BASE, Settings, UART, UART_LSR,
+};
 pub use steady_outer::SteadyOuter;
 pub use streams::write_whole;
 pub use text::Text;
