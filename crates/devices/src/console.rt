@@ -1,5 +1,5 @@
 ghost use Rattle.std.specs.Prelude.{◌≡◌, true, false, if◌then◌else◌, [], ◌∷◌, ◌++◌, drop, ◌^◌, ◌<◌, IfOk};
-ghost use Rattle.flex_base.specs.Devices.{next_byte, line_status};
+ghost use Rattle.flex_base.specs.Devices.{has_input, next_byte, line_status};
 ghost use Rattle.devices.specs.View.{has_room};
 
 use std::alloc::{AllocError, Global};
@@ -53,12 +53,18 @@ impl Console {
         })
     }
 
+    fn has_input(&self) -> bool
+        ensures { result ≡ has_input self.now.left }
+    {
+        self.taken < self.input.len()
+    }
+
     // The next byte of the input, or 0 where none is left.
     pub(crate) fn take(&mut self) -> u8
         ensures byte { result ≡ next_byte self.old.left }
         ensures left { self.new ≡ record self.old { left = drop 1 self.old.left } }
     {
-        if self.taken < self.input.len() {
+        if self.has_input() {
             let byte = self.input[self.taken];
             self.taken += 1;
             byte
@@ -72,11 +78,7 @@ impl Console {
         ensures value { result ≡ line_status self.now.left }
         ensures byte { result < 2 ^ 8 }
     {
-        let ready = if self.taken < self.input.len() {
-            LSR_DR
-        } else {
-            0
-        };
+        let ready = if self.has_input() { LSR_DR } else { 0 };
         LSR_TEMT + LSR_THRE + ready
     }
 

@@ -1,6 +1,6 @@
 ghost use Rattle.std.specs.Prelude.{◌≡◌, ◌^◌, ◌<◌, ◌==◌, false};
 ghost use Rattle.flex_base.specs.Causes.{MSI, MTI};
-ghost use Rattle.flex_base.specs.Devices.{has_bit, lines_of, is_interrupted, part, put_part};
+ghost use Rattle.flex_base.specs.Devices.{has_bit, is_timer_pending, lines_of, is_interrupted, part, put_part};
 
 use flex_base::HartDevice;
 
@@ -16,7 +16,11 @@ pub(crate) fn lines(mtime: u64, own: &HartDevice) -> u64
     ensures { result ≡ lines_of mtime own.now }
 {
     let software = if own.msip { MSI_BIT } else { 0 };
-    let timer = if own.mtimecmp <= mtime { MTI_BIT } else { 0 };
+    let timer = if is_timer_pending(mtime, own) {
+        MTI_BIT
+    } else {
+        0
+    };
     software + timer
 }
 
@@ -24,7 +28,13 @@ pub(crate) fn lines(mtime: u64, own: &HartDevice) -> u64
 pub(crate) fn is_interrupted(mtime: u64, own: &HartDevice, mie: u64) -> bool
     ensures { result ≡ is_interrupted mtime own.now mie }
 {
-    own.msip && has_software_bit(mie) || own.mtimecmp <= mtime && has_timer_bit(mie)
+    own.msip && has_software_bit(mie) || is_timer_pending(mtime, own) && has_timer_bit(mie)
+}
+
+fn is_timer_pending(mtime: u64, own: &HartDevice) -> bool
+    ensures { result ≡ is_timer_pending mtime own.now }
+{
+    own.mtimecmp <= mtime
 }
 
 fn has_software_bit(mie: u64) -> bool

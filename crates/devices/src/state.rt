@@ -107,7 +107,7 @@ impl State {
     fn store(&mut self, address: u64, width: u8, value: u64)
         ensures { self.new ≡ stores self.old (register_at address) address width value }
     {
-        if address == FINISHER {
+        if FINISHER <= address && address < FINISHER + 4 {
             self.finish(value);
         } else if MSIP <= address && address < MTIMECMP {
             self.put_msip((address - MSIP) / 4, value);

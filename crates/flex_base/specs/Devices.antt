@@ -1,11 +1,11 @@
 -- The devices: the harts' timers and software interrupts, the console, the test finisher, and how each hart stands. All of
 -- it follows from the list of the accesses so far.
-use Rattle.std.specs.Prelude.{ℕ, ◌+◌, ◌-◌, ◌*◌, ◌/◌, ◌%◌, ◌^◌, Bool, true, false, ◌&&◌, ◌||◌, ◌==◌, nat_le, nat_lt, if◌then◌else◌, List, map, length, drop, filter, fold, replicate, slice_set, slice_index_or, Option, None, Some, is_some}
+use Rattle.std.specs.Prelude.{ℕ, ◌+◌, ◌-◌, ◌*◌, ◌/◌, ◌%◌, ◌^◌, Bool, true, false, ◌&&◌, ◌||◌, ◌==◌, nat_le, nat_lt, if◌then◌else◌, List, [], ◌∷◌, map, length, drop, filter, fold, replicate, slice_set, slice_index_or, Option, None, Some, is_some}
 use Rattle.std.specs.List.{list_all, list_any}
 use Rattle.flex_base.specs.Word.{wrap, low, field, is_multiple}
 use Rattle.flex_base.specs.Causes.{MSI, MTI}
 use Rattle.flex_base.specs.Place.{FINISHER, MSIP, MTIMECMP, MTIME, UART, UART_LSR}
-use Rattle.flex_base.specs.FlatMemory.{Done, reply_with}
+use Rattle.flex_base.specs.FlatMemory.{Done, covers, reply_with}
 use Rattle.flex_base.specs.declared.access.Access.{Access}
 use Rattle.flex_base.specs.declared.access.Access.TheVariants as acc
 use Rattle.flex_base.specs.declared.access.Reply.{Reply}
@@ -129,15 +129,35 @@ pub data Register : Type 0 where
   LineStatus : Register
   Other : Register
 
--- the register that has the byte at an address, by the memory map; those of the harts are side by side, in rising order
+-- registers of one kind, side by side: where they begin, how many bytes they take together and each of them takes, and
+-- which the one of a number is
+pub record Family : Type 0 where
+  pub base : ℕ
+  pub size : ℕ
+  pub each : ℕ
+  pub register : ℕ → Register
+
+abbrev pub family : ℕ → ℕ → ℕ → (ℕ → Register) → Family
+family base size each register = record { base = base; size = size; each = each; register = register }
+
+-- those of the harts stand in rising order of the harts
+abbrev pub memory_map : List Family
+memory_map = family FINISHER 4 4 (λ i. Finisher)
+    ∷ family MSIP 0x4000 4 Msip
+    ∷ family MTIMECMP 0x7ff8 8 Mtimecmp
+    ∷ family MTIME 8 8 (λ i. Mtime)
+    ∷ family UART 1 1 (λ i. Uart)
+    ∷ family UART_LSR 1 1 (λ i. LineStatus)
+    ∷ []
+
+abbrev pub register_among : List Family → ℕ → Register
+register_among [] address = Other
+register_among (f ∷ more) address =
+    if covers f.base f.size address then f.register ((address - f.base) / f.each) else register_among more address
+
+-- the register that has the byte at an address
 abbrev pub register_at : ℕ → Register
-register_at address =
-    if address == FINISHER then Finisher
-    else (if nat_le MSIP address && nat_lt address MTIMECMP then Msip ((address - MSIP) / 4)
-    else (if nat_le MTIMECMP address && nat_lt address MTIME then Mtimecmp ((address - MTIMECMP) / 8)
-    else (if nat_le MTIME address && nat_lt address (MTIME + 8) then Mtime
-    else (if address == UART then Uart
-    else (if address == UART_LSR then LineStatus else Other)))))
+register_at address = register_among memory_map address
 
 -- of an 8-byte register the whole, or the half at the address
 abbrev pub part : ℕ → ℕ → ℕ → ℕ
