@@ -1,5 +1,6 @@
 -- The devices stay the replay of the accesses.
-use Rattle.std.proofs.Common.{◌≡◌, ℕ, Bool, true, false, ◌&&◌, if◌then◌else◌, List, [], ◌∷◌, ◌++◌, map, length, drop, refl, ap, sym, ◌∙◌, append-nil}
+use Rattle.std.proofs.Common.{◌≡◌, ℕ, ◌<◌, Bool, true, false, not, ◌&&◌, ◌||◌, nat_lt, if◌then◌else◌, List, [], ◌∷◌, ◌++◌, map, length, drop, refl, ap, sym, ◌∙◌, append-nil, arith}
+use Rattle.std.proofs.lemmas.Bool.Decides.{nat_tests}
 use Rattle.std.specs.List.{filter}
 use Rattle.std.proofs.lemmas.List.{length_push, map-append, drop-drop}
 use Rattle.std.proofs.lemmas.List.Elements.{filter-append}
@@ -7,8 +8,9 @@ use Rattle.std.proofs.lemmas.List.Sums.{fold_push}
 use Rattle.flex_base.specs.FlatMemory.{Done}
 use Rattle.flex_base.specs.Devices.{devices, devices_start, device_step, reply_in, input_left, sent_bytes, is_receive, is_transmit, byte_of, reply_after}
 use Rattle.flex_base.specs.declared.access.Access.{Access}
+use Rattle.flex_base.specs.declared.access.Access.TheVariants as acc
 use Rattle.flex_base.specs.declared.access.Reply.{Reply}
-use Rattle.devices.specs.View.{DevicesView, IsReplay, left_after, kept_after}
+use Rattle.devices.specs.View.{DevicesView, IsReplay, has_room, HasRoom, left_after, kept_after}
 
 abbrev pub done : ℕ → Access → Reply → Done
 done h access reply = record { hart = h; access = access; reply = reply }
@@ -62,3 +64,19 @@ replay_push harts input made old new h access reply steps left kept same replay 
           ∙ ap (λ xs. if is_transmit access then xs ++ byte_of access ∷ [] else xs) (replay.sent kept_before)
           ∙ sym (sent_push made d);
     }
+
+-- There is room.
+
+room_by : (keeps : Bool) (held sent : List ℕ) (room : ℕ) → (keeps ≡ true → held ≡ sent) → length sent < room → (not keeps || nat_lt (length held) room) ≡ true
+room_by false held sent room same few = refl
+room_by true held sent room same few = grind (arith, nat_tests, ap length (same refl), few)
+
+-- while fewer bytes were sent than there is room for
+pub has_room-sent : (harts : ℕ) (input : List ℕ) (made : List Done) (d : DevicesView) → IsReplay harts input made d
+    → length (sent_bytes made) < d.console.room → has_room d.console ≡ true
+has_room-sent harts input made d replay few = room_by d.console.keeps d.console.sent (sent_bytes made) d.console.room replay.sent few
+
+-- then each access may be made
+pub may_act : (d : DevicesView) (access : Access) → has_room d.console ≡ true → HasRoom d access
+may_act d (acc.DevWrite address width value) room = λ _. room
+may_act d other room = tt
