@@ -2,7 +2,7 @@
 use Rattle.std.proofs.Common.{◌≡◌, ℕ, ◌==◌, Bool, true, false, ◌&&◌, if◌then◌else◌, List, [], ◌∷◌, zero, suc, slice_index_or, Option, None, Some, inl, inr, refl, ap, sym, subst, ◌∙◌}
 use Rattle.std.proofs.lemmas.Bool.{cases_Bool, and_parts}
 use Rattle.flex_base.specs.Word.{low, field}
-use Rattle.flex_base.specs.Devices.{DeviceState, hart_at, hart_start, wakes, is_at_rest, is_woken, all_at_rest, some_unwoken, all_spent, stands_as, runs_if_woken, stops, first_stop, Register, Finisher, Msip, Mtimecmp, Mtime, Uart, LineStatus, Other, register_at, FINISHER_PASS, FINISHER_FAIL, finishes, stores, next_alarm, jumps_to, rests, spends, next_mtime, device_step}
+use Rattle.flex_base.specs.Devices.{DeviceState, hart_at, hart_start, wakes, is_at_rest, is_woken, all_at_rest, some_unwoken, all_spent, stands_as, runs_if_woken, stops, first_stop, Register, Finisher, Msip, Mtimecmp, Mtime, Uart, LineStatus, Other, register_at, FINISHER_PASS, FINISHER_FAIL, stores, next_alarm, jumps_to, rests, spends, next_mtime, device_step}
 use Rattle.flex_base.specs.DeviceLaws.{IsIdle}
 use Rattle.flex_base.proofs.Alarms.{no_alarms}
 use Rattle.flex_base.proofs.DeviceLaws.{stopped_rests}

@@ -1,8 +1,8 @@
 -- A hart that waits unwoken waits for a line that is off.
-use Rattle.std.proofs.Common.{◌≡◌, ℕ, zero, suc, ◌<◌, Bool, true, false, not, ◌&&◌, if◌then◌else◌, List, [], ◌∷◌, map, length, slice_set, slice_index_or, Option, None, Some, inl, inr, refl, ap, sym, subst, ◌∙◌, arith}
+use Rattle.std.proofs.Common.{◌≡◌, ℕ, zero, suc, Bool, true, false, not, ◌&&◌, if◌then◌else◌, List, [], ◌∷◌, map, slice_set, Option, None, Some, inl, inr, refl, ap, ◌∙◌}
 use Rattle.std.specs.List.{list_all}
 use Rattle.std.proofs.lemmas.Bool.{cases_Bool, and_parts}
-use Rattle.flex_base.specs.Devices.{DeviceState, hart_at, hart_start, is_interrupted, wakes, wakes_hart, wakes_standing, is_woken, all_at_rest, some_unwoken, all_spent, stands_as, runs_if_woken, stops, register_at, stores, next_alarm, jumps_to, rests, spends, next_mtime, device_step}
+use Rattle.flex_base.specs.Devices.{DeviceState, hart_at, is_interrupted, wakes, wakes_hart, wakes_standing, is_woken, all_at_rest, some_unwoken, all_spent, stands_as, runs_if_woken, stops, register_at, stores, next_alarm, jumps_to, rests, spends, next_mtime, device_step}
 use Rattle.flex_base.specs.DeviceLaws.{settled_by, is_settled}
 use Rattle.flex_base.specs.declared.access.Access.{Access}
 use Rattle.flex_base.specs.declared.access.Access.TheVariants as acc
