@@ -3,10 +3,8 @@ use Rattle.std.proofs.Common.{◌≡◌, ℕ, ◌*◌, ◌^◌, ◌<◌, ◌≤�
 use Rattle.std.proofs.lemmas.Nat.{pow_pos}
 use Rattle.flex_base.specs.Place.{UART, place_of}
 use Rattle.flex_base.specs.declared.settings.Place.TheVariants as place
-use Rattle.flex_base.specs.Setup.{Setup}
-use Rattle.flex_base.specs.Forms.{IsPlaced, TellsValue}
+use Rattle.flex_base.specs.Forms.{HasForm, IsPlaced, TellsValue}
 use Rattle.flex_base.specs.FlatMemory.{reply_with}
-use Rattle.flex_base.specs.DeviceLaws.{HasDeviceForm}
 use Rattle.flex_base.specs.declared.access.Access.{Access}
 use Rattle.flex_base.specs.declared.access.Access.TheVariants as acc
 use Rattle.flex_base.proofs.DevicePlaces.{device_width}
@@ -29,16 +27,16 @@ fits_width harts ram address width value here word narrow byte =
       ]
     ]
 
-pub read_form : (setup : Setup) (address width value : ℕ) → IsPlaced setup (acc.DevRead address width) → value < 2 ^ 64
-    → ((width == 8) ≡ false → value < 2 ^ 32) → (UART ≤ address → value < 2 ^ 8) → HasDeviceForm (acc.DevRead address width) (reply_with value)
-read_form setup address width value placed word narrow byte =
-    record { value = fits_width setup.harts setup.ram address width value placed word narrow byte; lines = refl; stop = refl }
+pub read_form : (harts ram address width value : ℕ) → IsPlaced harts ram (acc.DevRead address width) → value < 2 ^ 64
+    → ((width == 8) ≡ false → value < 2 ^ 32) → (UART ≤ address → value < 2 ^ 8) → HasForm (acc.DevRead address width) (reply_with value)
+read_form harts ram address width value placed word narrow byte =
+    record { value = fits_width harts ram address width value placed word narrow byte; lines = refl; stop = refl }
 
 told_0 : (bits : ℕ) → TellsValue bits (reply_with 0)
 told_0 bits = record { value = pow_pos bits; lines = refl; stop = refl }
 
 -- the reply 0 has any
-pub zero_form : (access : Access) → HasDeviceForm access (reply_with 0)
+pub zero_form : (access : Access) → HasForm access (reply_with 0)
 zero_form (acc.Fetch address) = told_0 32
 zero_form (acc.Pte address) = told_0 64
 zero_form (acc.Read address width) = told_0 (8 * width)

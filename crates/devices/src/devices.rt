@@ -2,12 +2,11 @@ ghost use Rattle.std.specs.Prelude.{◌≡◌, ◌≢◌, ℕ, ◌+◌, ◌<◌,
 ghost use Rattle.flex_base.specs.Word.{wrap};
 ghost use Rattle.flex_base.specs.Limits.{is_lawful};
 ghost use Rattle.flex_base.specs.Place.{UART};
-ghost use Rattle.flex_base.specs.Setup.{Setup};
-ghost use Rattle.flex_base.specs.Forms.{IsPlaced, TellsLines};
+ghost use Rattle.flex_base.specs.Forms.{IsPlaced, HasForm, TellsLines};
 ghost use Rattle.flex_base.specs.FlatMemory.{Done};
-ghost use Rattle.flex_base.specs.Unsplit.{noted};
+ghost use Rattle.flex_base.specs.Unsplit.{with_access};
 ghost use Rattle.flex_base.specs.Devices.{hart_at, register_at, register_value, next_alarm, device_step, devices, woken, device_stop, sent_bytes, tells, reply_in, reply_after};
-ghost use Rattle.flex_base.specs.DeviceLaws.{AreBelow, IsLive, KeepsStop, is_settled, IsIdle, IsNextAlarm, MovesTime, AreSteady, ticks, HasDeviceForm};
+ghost use Rattle.flex_base.specs.DeviceLaws.{AreBelow, IsLive, KeepsStop, is_settled, IsIdle, IsNextAlarm, MovesTime, AreSteady, ticks};
 ghost use Rattle.flex_base.specs.declared.hart_device.HartDevice.{HartDevice};
 ghost use Rattle.devices.specs.View.{IsReplay, IsSame, HasRoom, has_room, room_for, left_after, kept_after};
 
@@ -69,8 +68,8 @@ impl Devices {
         ensures reply { (harts : ℕ) (input : List ℕ) (made : List Done) → IsReplay harts input made self.old
             → result ≡ reply_after harts input made hart.0 acc.now }
         ensures replay { (harts : ℕ) (input : List ℕ) (made : List Done) → IsReplay harts input made self.old
-            → IsReplay harts input (noted made hart.0 acc.now result) self.new }
-        ensures form { (setup : Setup) → IsPlaced setup acc.now → HasDeviceForm acc.now result }
+            → IsReplay harts input (with_access made hart.0 acc.now result) self.new }
+        ensures form { (harts ram : ℕ) → IsPlaced harts ram acc.now → HasForm acc.now result }
         ensures same { IsSame self.old self.new }
         ensures kept { self.new.console.sent ≡ kept_after self.old acc.now }
 
@@ -145,7 +144,7 @@ impl Devices {
         ensures state { self.new.state ≡ device_step self.old.state hart acc.now }
         ensures left { self.new.console.left ≡ left_after self.old acc.now }
         ensures kept { self.new.console.sent ≡ kept_after self.old acc.now }
-        ensures form { (setup : Setup) → IsPlaced setup acc.now → HasDeviceForm acc.now result }
+        ensures form { (harts ram : ℕ) → IsPlaced harts ram acc.now → HasForm acc.now result }
         ensures same { IsSame self.old self.new }
     {
         match *acc {
@@ -159,12 +158,12 @@ impl Devices {
             }
             Access::Retire => {
                 self.state.retire(hart);
-                Reply::told(0)
+                Reply::with_value(0)
             }
             Access::DevRead { address, width } => {
                 let value = self.read(address, width);
                 self.state.wake();
-                Reply::told(value)
+                Reply::with_value(value)
             }
             Access::DevWrite {
                 address,
@@ -173,15 +172,15 @@ impl Devices {
             } => {
                 self.send(address, value);
                 self.state.write(address, width, value);
-                Reply::told(0)
+                Reply::with_value(0)
             }
             Access::Time => {
                 self.state.wake();
-                Reply::told(self.state.mtime())
+                Reply::with_value(self.state.mtime())
             }
             _ => {
                 self.state.wake();
-                Reply::told(0)
+                Reply::with_value(0)
             }
         }
     }

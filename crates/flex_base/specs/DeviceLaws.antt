@@ -2,11 +2,9 @@
 use Rattle.std.specs.Prelude.{◌≡◌, ℕ, ◌<◌, ◌≤◌, ◌⊎◌, Bool, true, false, not, if◌then◌else◌, List, [], ◌∷◌, length, filter, slice_index_or, Option, None, Some, is_some}
 use Rattle.std.specs.List.{list_all}
 use Rattle.flex_base.specs.FlatMemory.{Done}
-use Rattle.flex_base.specs.Forms.{HasForm, TellsLines}
 use Rattle.flex_base.specs.Devices.{DeviceState, hart_at, hart_start, is_interrupted, all_at_rest, alarm, Register, Mtime, register_at, put_part, next_mtime}
 use Rattle.flex_base.specs.declared.access.Access.{Access}
 use Rattle.flex_base.specs.declared.access.Access.TheVariants as acc
-use Rattle.flex_base.specs.declared.access.Reply.{Reply}
 use Rattle.flex_base.specs.declared.event.Stop.{Stop}
 use Rattle.flex_base.specs.declared.hart_device.HartDevice.{HartDevice}
 use Rattle.flex_base.specs.declared.hart_device.HartStanding.{HartStanding}
@@ -81,10 +79,3 @@ AreSteady made = list_all (λ (d : Done). is_steady d.access) made ≡ true
 -- how often time went on
 abbrev pub ticks : List Done → ℕ
 ticks made = length (filter (λ (d : Done). is_ticking d.access) made)
-
--- Replies.
-
--- the form of a reply: a pulse and a wait tell the lines
-abbrev pub HasDeviceForm : Access → Reply → Type 0
-HasDeviceForm (acc.Pulse tick) reply = TellsLines reply
-HasDeviceForm other reply = HasForm other reply

@@ -3,9 +3,7 @@ use Rattle.flex_base.specs.declared.access.Access.{Access}
 use Rattle.flex_base.specs.declared.access.Access.TheVariants as acc
 use Rattle.flex_base.specs.declared.access.Reply.{Reply}
 use Rattle.flex_base.specs.FlatMemory.{reply_with}
-use Rattle.flex_base.specs.Forms.{IsPlaced}
-use Rattle.flex_base.specs.Setup.{Setup}
-use Rattle.flex_base.specs.DeviceLaws.{HasDeviceForm}
+use Rattle.flex_base.specs.Forms.{HasForm, IsPlaced}
 use Rattle.devices.proofs.Forms.{read_form, zero_form}
 use Rattle.flex_base.proofs.DeviceLaws.{harts-step, harts_in}
 use Rattle.devices.specs.View.{DevicesView, kept_after}
@@ -29,14 +27,14 @@ returns-in-DevWrite-clause-kept c =
     ∙ ap (kept_after c.args.self.now) (sym c.in-DevWrite.is)
 
 pub returns-in-DevRead-clause-form : goal.returns-in-DevRead-clause-form
-returns-in-DevRead-clause-form c = λ setup placed.
-    let At : Access → Type 0 = λ access. IsPlaced setup access → HasDeviceForm access (reply_with c.read-value.result) in
+returns-in-DevRead-clause-form c = λ harts ram placed.
+    let At : Access → Type 0 = λ access. IsPlaced harts ram access → HasForm access (reply_with c.read-value.result) in
     let here : At (acc.DevRead c.in-DevRead.address c.in-DevRead.width) = λ at.
-    read_form setup c.in-DevRead.address c.in-DevRead.width c.read-value.result at c.read-value.type_inv c.read-value.ensures.narrow c.read-value.ensures.byte in
-    let Of : Reply → Type 0 = λ reply. HasDeviceForm c.args.acc.now reply in
-    subst Of (sym c.told-in-DevRead.ensures) (subst At (sym c.in-DevRead.is) here placed)
+    read_form harts ram c.in-DevRead.address c.in-DevRead.width c.read-value.result at c.read-value.type_inv c.read-value.ensures.narrow c.read-value.ensures.byte in
+    let Of : Reply → Type 0 = λ reply. HasForm c.args.acc.now reply in
+    subst Of (sym c.with_value-in-DevRead.ensures) (subst At (sym c.in-DevRead.is) here placed)
 
 pub returns-in_default-clause-form : goal.returns-in_default-clause-form
-returns-in_default-clause-form c = λ setup placed.
-    let Of : Reply → Type 0 = λ reply. HasDeviceForm c.args.acc.now reply in
-    subst Of (sym c.told-in_default.ensures) (zero_form c.args.acc.now)
+returns-in_default-clause-form c = λ harts ram placed.
+    let Of : Reply → Type 0 = λ reply. HasForm c.args.acc.now reply in
+    subst Of (sym c.with_value-in_default.ensures) (zero_form c.args.acc.now)
