@@ -1,6 +1,7 @@
 ghost use Rattle.std.specs.Prelude.{◌≡◌, ◌^◌, ◌<◌, ◌==◌, false};
+ghost use Rattle.flex_base.specs.Word.{is_set};
 ghost use Rattle.flex_base.specs.Causes.{MSI, MTI};
-ghost use Rattle.flex_base.specs.Devices.{has_bit, is_timer_pending, lines_of, is_interrupted, part, put_part};
+ghost use Rattle.flex_base.specs.Devices.{is_timer_pending, lines_of, is_interrupted, part, put_part};
 
 use flex_base::HartDevice;
 
@@ -38,13 +39,13 @@ fn is_timer_pending(mtime: u64, own: &HartDevice) -> bool
 }
 
 fn has_software_bit(mie: u64) -> bool
-    ensures { result ≡ has_bit MSI mie }
+    ensures { result ≡ is_set MSI mie }
 {
     mie / MSI_BIT % 2 == 1
 }
 
 pub(crate) fn has_timer_bit(mie: u64) -> bool
-    ensures { result ≡ has_bit MTI mie }
+    ensures { result ≡ is_set MTI mie }
 {
     mie / MTI_BIT % 2 == 1
 }

@@ -3,8 +3,9 @@ use Rattle.std.proofs.Common.{◌≡◌, ℕ, zero, suc, ◌<◌, ◌≤◌, ◌
 use Rattle.std.specs.List.{fold, list_all}
 use Rattle.std.proofs.lemmas.Bool.{and_parts}
 use Rattle.std.proofs.lemmas.Bool.Decides.{nat_tests}
+use Rattle.flex_base.specs.Word.{is_set}
 use Rattle.flex_base.specs.Causes.{MSI, MTI}
-use Rattle.flex_base.specs.Devices.{hart_start, has_bit, is_timer_pending, never, alarm, alarm_of, sooner, next_alarm}
+use Rattle.flex_base.specs.Devices.{hart_start, is_timer_pending, never, alarm, alarm_of, sooner, next_alarm}
 use Rattle.flex_base.specs.DeviceLaws.{settled_by, IsNextAlarm}
 use Rattle.flex_base.specs.declared.hart_device.HartDevice.{HartDevice}
 use Rattle.flex_base.specs.declared.hart_device.HartStanding.{HartStanding}
@@ -123,8 +124,8 @@ ahead_by mtime own stand.Runs time settled e = absurd cc
 ahead_by mtime own stand.Woken time settled e = absurd cc
 ahead_by mtime own stand.Spent time settled e = absurd cc
 ahead_by mtime own (stand.Waits mie) time settled e =
-    let both = alarm_tells (has_bit MTI mie) (nat_lt own.mtimecmp never) own.mtimecmp time e in
-    let off : is_timer_pending mtime own ≡ false = off_by (own.msip && has_bit MSI mie) (is_timer_pending mtime own) (has_bit MTI mie) settled both.0 in
+    let both = alarm_tells (is_set MTI mie) (nat_lt own.mtimecmp never) own.mtimecmp time e in
+    let off : is_timer_pending mtime own ≡ false = off_by (own.msip && is_set MSI mie) (is_timer_pending mtime own) (is_set MTI mie) settled both.0 in
     grind (arith, nat_tests, off, both.1)
 
 all_at : (p : HartDevice → Bool) (xs : List HartDevice) (h : ℕ) (d : HartDevice) → h < length xs → list_all p xs ≡ true → p (slice_index_or xs h d) ≡ true

@@ -7,9 +7,9 @@ use Rattle.std.proofs.lemmas.Bool.{cases_Bool, and_cases, and_right, or_right}
 use Rattle.std.proofs.lemmas.List.{length-map, length-set, length-replicate}
 use Rattle.std.proofs.lemmas.List.Sums.{fold-append}
 use Rattle.flex_base.specs.FlatMemory.{Done}
-use Rattle.flex_base.specs.Word.{low, field}
+use Rattle.flex_base.specs.Word.{low, field, is_set}
 use Rattle.flex_base.specs.Causes.{MSI, MTI}
-use Rattle.flex_base.specs.Devices.{DeviceState, hart_at, set_hart, hart_start, has_bit, is_timer_pending, is_interrupted, wakes, wakes_hart, wakes_standing, is_at_rest, is_unwoken, is_spent, is_woken, all_at_rest, some_unwoken, all_spent, stands_as, runs_if_woken, stops, first_stop, Register, Finisher, Msip, Mtimecmp, Mtime, register_at, stores, finishes, FINISHER_PASS, FINISHER_FAIL, never, alarm_of, next_alarm, jumps_to, rests, spends, next_mtime, device_step, devices, devices_start, device_stop}
+use Rattle.flex_base.specs.Devices.{DeviceState, hart_at, set_hart, hart_start, is_timer_pending, is_interrupted, wakes, wakes_hart, wakes_standing, is_at_rest, is_unwoken, is_spent, is_woken, all_at_rest, some_unwoken, all_spent, stands_as, runs_if_woken, stops, first_stop, Register, Finisher, Msip, Mtimecmp, Mtime, register_at, stores, finishes, FINISHER_PASS, FINISHER_FAIL, never, alarm_of, next_alarm, jumps_to, rests, spends, next_mtime, device_step, devices, devices_start, device_stop}
 use Rattle.flex_base.specs.DeviceLaws.{AreBelow, IsLive, KeepsStop}
 use Rattle.flex_base.proofs.Alarms.{alarm_tells, alarm_of_some}
 use Rattle.flex_base.specs.declared.access.Access.{Access}
@@ -137,9 +137,9 @@ alarm_wakes_by mtime own stand.Runs time e now = absurd cc
 alarm_wakes_by mtime own stand.Woken time e now = absurd cc
 alarm_wakes_by mtime own stand.Spent time e now = absurd cc
 alarm_wakes_by mtime own (stand.Waits mie) time e now =
-    let both = alarm_tells (has_bit MTI mie) (nat_lt own.mtimecmp never) own.mtimecmp time e in
+    let both = alarm_tells (is_set MTI mie) (nat_lt own.mtimecmp never) own.mtimecmp time e in
     let pending : is_timer_pending mtime own ≡ true = grind (arith, nat_tests, both.1, now) in
-    ap (λ b. is_at_rest (if b then stand.Woken else stand.Waits mie)) (enabled_by (own.msip && has_bit MSI mie) (is_timer_pending mtime own) (has_bit MTI mie) pending both.0)
+    ap (λ b. is_at_rest (if b then stand.Woken else stand.Waits mie)) (enabled_by (own.msip && is_set MSI mie) (is_timer_pending mtime own) (is_set MTI mie) pending both.0)
 
 -- one element that fails after a map
 fails_at : (p : HartDevice → Bool) (f : HartDevice → HartDevice) (xs : List HartDevice) (h : ℕ) (d : HartDevice) → h < length xs

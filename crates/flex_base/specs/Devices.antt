@@ -2,7 +2,7 @@
 -- it follows from the list of the accesses so far.
 use Rattle.std.specs.Prelude.{ℕ, ◌+◌, ◌-◌, ◌*◌, ◌/◌, ◌%◌, ◌^◌, Bool, true, false, ◌&&◌, ◌||◌, ◌==◌, nat_le, nat_lt, if◌then◌else◌, List, [], ◌∷◌, map, length, drop, filter, fold, replicate, slice_set, slice_index_or, Option, None, Some, is_some}
 use Rattle.std.specs.List.{list_all, list_any}
-use Rattle.flex_base.specs.Word.{wrap, low, field, is_multiple}
+use Rattle.flex_base.specs.Word.{wrap, low, field, is_set, is_multiple}
 use Rattle.flex_base.specs.Causes.{MSI, MTI}
 use Rattle.flex_base.specs.Place.{FINISHER, MSIP, MTIMECMP, MTIME, UART, UART_LSR}
 use Rattle.flex_base.specs.FlatMemory.{Done, covers, reply_with}
@@ -42,9 +42,6 @@ set_hart s h own = record s { harts = slice_set s.harts h own }
 
 -- Interrupt lines, and waking by them.
 
-abbrev pub has_bit : ℕ → ℕ → Bool
-has_bit i n = field i 1 n == 1
-
 -- the timer's interrupt is pending where the time is at least the compare value (Volume II, "Machine Timer Registers
 -- (mtime and mtimecmp)")
 abbrev pub is_timer_pending : ℕ → HartDevice → Bool
@@ -56,7 +53,7 @@ lines_of mtime own = (if own.msip then 2 ^ MSI else 0) + (if is_timer_pending mt
 
 -- a line is on that is enabled in mie
 abbrev pub is_interrupted : ℕ → HartDevice → ℕ → Bool
-is_interrupted mtime own mie = (own.msip && has_bit MSI mie) || (is_timer_pending mtime own && has_bit MTI mie)
+is_interrupted mtime own mie = (own.msip && is_set MSI mie) || (is_timer_pending mtime own && is_set MTI mie)
 
 abbrev pub wakes_standing : ℕ → HartDevice → HartStanding → HartStanding
 wakes_standing mtime own (stand.Waits mie) = if is_interrupted mtime own mie then stand.Woken else stand.Waits mie
@@ -184,7 +181,7 @@ finishes s value =
     else (if low 16 value == FINISHER_FAIL then stops s (stop.Off (field 16 16 value)) else s)
 
 abbrev pub puts_msip : DeviceState → ℕ → ℕ → DeviceState
-puts_msip s h value = set_hart s h (record (hart_at s h) { msip = has_bit 0 value })
+puts_msip s h value = set_hart s h (record (hart_at s h) { msip = is_set 0 value })
 
 abbrev pub puts_mtimecmp : DeviceState → ℕ → ℕ → ℕ → ℕ → DeviceState
 puts_mtimecmp s h address width value =
@@ -232,7 +229,7 @@ register_value s left other address width = 0
 
 -- the compare value by which time alone wakes the hart
 abbrev pub alarm_of : HartStanding → ℕ → Option ℕ
-alarm_of (stand.Waits mie) mtimecmp = if has_bit MTI mie && nat_lt mtimecmp never then Some mtimecmp else None
+alarm_of (stand.Waits mie) mtimecmp = if is_set MTI mie && nat_lt mtimecmp never then Some mtimecmp else None
 alarm_of other mtimecmp = None
 
 abbrev pub alarm : HartDevice → Option ℕ
