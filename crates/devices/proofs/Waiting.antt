@@ -1,6 +1,5 @@
 -- Where no hart waits unwoken, waking changes nothing.
 use Rattle.std.proofs.Common.{◌≡◌, ℕ, Bool, true, false, ◌||◌, List, [], ◌∷◌, map, slice_set, replicate, zero, suc, refl, ap, ◌∙◌}
-use Rattle.std.specs.List.{list_any}
 use Rattle.flex_base.specs.Devices.{hart_start, wakes_hart, wakes_standing, is_unwoken, some_unwoken}
 use Rattle.flex_base.specs.declared.hart_device.HartDevice.{HartDevice}
 use Rattle.flex_base.specs.declared.hart_device.HartStanding.{HartStanding}

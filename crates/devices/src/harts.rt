@@ -1,4 +1,4 @@
-ghost use Rattle.std.specs.Prelude.{◌≡◌, ℕ, map, replicate, slice_set, slice_index_or, IfOk};
+ghost use Rattle.std.specs.Prelude.{◌≡◌, map, replicate, slice_set, slice_index_or, IfOk};
 ghost use Rattle.flex_base.specs.Devices.{hart_start, wakes_hart};
 
 use crate::standing::{is_unwoken, some_unwoken, wake};

@@ -1,4 +1,4 @@
-use Rattle.std.proofs.Common.{◌≡◌, ◌<◌, length, None, Some, sym, subst, true, ◌∙◌}
+use Rattle.std.proofs.Common.{◌≡◌, Some, sym, subst, true, ◌∙◌}
 use Rattle.flex_base.specs.Devices.{DeviceState}
 use Rattle.flex_base.specs.DeviceLaws.{is_settled, KeepsStop, IsLive, IsIdle, MovesTime}
 use Rattle.flex_base.specs.declared.event.Stop.TheVariants as stop
