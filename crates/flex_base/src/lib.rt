@@ -11,6 +11,7 @@ mod engine;
 mod event;
 mod gate;
 mod hart;
+mod hart_device;
 mod image;
 mod line;
 mod operation;
@@ -26,12 +27,15 @@ pub use engine::Engine;
 pub use event::{EndPart, Event, Stop, What};
 pub use gate::{Gate, OpenGate, Point};
 pub use hart::{HartId, Mode};
+pub use hart_device::{HartDevice, HartStanding};
 pub use image::Image;
 pub use line::Line;
 pub use operation::{AluOp, AmoOp, BranchOp, CsrOp, MulOp, Op};
 pub use outer::{Failed, MemoryOuter, Outer, RealOuter, SteadyOuter, TakeFault, write_whole};
 pub use reservation::{reservation_set, is_reserved};
-pub use settings::{Layout, Place, RAM_BASE, Settings};
+    FINISHER, Layout, MSIP, MTIME, MTIMECMP, Place, RAM_BASE, Settings, UART, UART_LSR,
+pub use settings::{
+};
 pub use text::Text;
 pub use translation::{Kind, Leaf, WalkStep};
 
