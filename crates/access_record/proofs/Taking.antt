@@ -1,5 +1,5 @@
 -- How far one seat has taken in the logs of passes, which are taken from the end of their list.
-use Rattle.std.proofs.Common.{◌≡◌, ℕ, suc, ◌+◌, ◌%◌, ◌<◌, ◌≤◌, List, [], ◌∷◌, ◌++◌, map, length, set, refl, sym, ap, ◌∙◌, subst, arith, append_assoc, append-nil, length-append, Some}
+use Rattle.std.proofs.Common.{◌≡◌, ℕ, suc, ◌+◌, ◌%◌, ◌<◌, ◌≤◌, true, List, [], ◌∷◌, ◌++◌, map, length, set, refl, sym, ap, ◌∙◌, subst, arith, append_assoc, append-nil, length-append, Some}
 use Rattle.std.specs.List.{All}
 use Rattle.std.proofs.lemmas.List.{get_or-set_same, get_or-set_other, length-set}
 use Rattle.std.proofs.lemmas.List.Elements.{All-pop, All-head, All-tail}
@@ -90,12 +90,14 @@ all_in_view-back r ps ds a b =
     let d = passes-back (λ (q : PassOfBank). q.id) view_of_bank_pass bank_pass_of (λ q. refl) r.id ds b in
     λ i. record { id = r.id; harts = r.harts; banks = r.banks; passes = p i; bank_passes = d i }
 
--- the founder's seat has taken in all passes
-pub taken_all : (r : Enrolment) (table : TableId) (me one two : Me ℕ View) (ps : List PassOfHart) (ds : List PassOfBank) → IsFounder me → enrolment_in table me.0 ≡ r → one ≡ (with_passes ps me.0, me.1) → two ≡ (with_bank_passes ds one.0, one.1) → two.0 ≡ founder_and r ps ds
-taken_all r table me one two ps ds is listed one_is two_is =
+-- the founder's seat has taken in all passes, which are of its record: it is the founder's still, and what it stands for
+pub all_taken : (r : Enrolment) (id table : TableId) (me one two : Me ℕ View) (ps : List PassOfHart) (ds : List PassOfBank)
+    → IsFounder me → enrolment_in table me.0 ≡ r → one ≡ (with_passes ps me.0, me.1) → two ≡ (with_bank_passes ds one.0, one.1)
+    → r.id ≡ id → All (λ (p : PassOfHart). p.id ≡ id) ps → All (λ (p : PassOfBank). p.id ≡ id) ds
+    → (two.0.founder ≡ true) × (all_in_view r.id two.0 ≡ all_passes r ps ds)
+all_taken r id table me one two ps ds is listed one_is two_is same a b =
     let first : me.0 ≡ founder_with r.harts r.banks [] [] = ap (λ (m : Me ℕ View). m.0) is ∙ ap (λ (x : Enrolment). founder_with x.harts x.banks [] []) listed in
-    ap (λ (m : Me ℕ View). m.0) two_is ∙ (ap (λ (m : Me ℕ View). with_bank_passes ds m.0) one_is ∙ ap (λ (v : View). with_bank_passes ds (with_passes ps v)) first)
-
--- what that seat stands for, where the passes are of the founder's record
-pub all_taken : (r : Enrolment) (id : TableId) (v : View) (ps : List PassOfHart) (ds : List PassOfBank) → v ≡ founder_and r ps ds → r.id ≡ id → All (λ (p : PassOfHart). p.id ≡ id) ps → All (λ (p : PassOfBank). p.id ≡ id) ds → all_in_view r.id v ≡ all_passes r ps ds
-all_taken r id v ps ds is same a b = ap (all_in_view r.id) is ∙ all_in_view-back r ps ds (subst (λ (t : TableId). All (λ (p : PassOfHart). p.id ≡ t) ps) (sym same) a) (subst (λ (t : TableId). All (λ (p : PassOfBank). p.id ≡ t) ds) (sym same) b)
+    let view : two.0 ≡ founder_and r ps ds = ap (λ (m : Me ℕ View). m.0) two_is ∙ (ap (λ (m : Me ℕ View). with_bank_passes ds m.0) one_is ∙ ap (λ (v : View). with_bank_passes ds (with_passes ps v)) first) in
+    let ids = subst (λ (t : TableId). All (λ (p : PassOfHart). p.id ≡ t) ps) (sym same) a in
+    let bank_ids = subst (λ (t : TableId). All (λ (p : PassOfBank). p.id ≡ t) ds) (sym same) b in
+    (ap (λ (v : View). v.founder) view, ap (all_in_view r.id) view ∙ all_in_view-back r ps ds ids bank_ids)

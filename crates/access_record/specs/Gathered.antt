@@ -19,11 +19,23 @@ pub record AllPasses : Type 0 where
   pub bank_passes : List PassOfBank
 
 abbrev pub all_in_view : TableId → View → AllPasses
-all_in_view id v = record { id = id; harts = v.enrolled_harts; banks = v.enrolled_banks; passes = map (pass_of id) v.harts; bank_passes = map (bank_pass_of id) v.banks }
+all_in_view id v = record {
+  id = id;
+  harts = v.enrolled_harts;
+  banks = v.enrolled_banks;
+  passes = map (pass_of id) v.harts;
+  bank_passes = map (bank_pass_of id) v.banks;
+}
 
 -- the passes of this founder's record
 abbrev pub all_passes : Enrolment → List PassOfHart → List PassOfBank → AllPasses
-all_passes r passes bank_passes = record { id = r.id; harts = r.harts; banks = r.banks; passes = passes; bank_passes = bank_passes }
+all_passes r passes bank_passes = record {
+  id = r.id;
+  harts = r.harts;
+  banks = r.banks;
+  passes = passes;
+  bank_passes = bank_passes;
+}
 
 abbrev pub enrolment_of : AllPasses → Enrolment
 enrolment_of a = record { id = a.id; harts = a.harts; banks = a.banks }
@@ -39,9 +51,10 @@ ListsHarts names k ps = Lists (λ (p : HartView). p.hart) some_hart names k ps
 abbrev pub ListsBanks : List ℕ → ℕ → List BankView → Type 0
 ListsBanks names k ps = Lists (λ (p : BankView). p.bank) 0 names k ps
 
--- one seat has all logs of a founder's record, and the names of their harts and banks are listed in the order of the logs;
--- there is room for the passes
-pub record IsGathered (me : Me ℕ View) (harts : List HartId) (banks : List ℕ) (count bank_count room bank_room : ℕ) : Type 0 where
+-- one seat has all logs of a founder's record, and the names of their harts and banks are listed in the order of the
+-- logs; there is room for the passes
+pub record IsGathered (me : Me ℕ View) (harts : List HartId) (banks : List ℕ)
+    (count bank_count room bank_room : ℕ) : Type 0 where
   pub view_is : me ≡ (founder_with me.0.enrolled_harts me.0.enrolled_banks me.0.harts me.0.banks, [])
   pub hart_names : ListsHarts harts 0 me.0.harts
   pub bank_names : ListsBanks banks 0 me.0.banks

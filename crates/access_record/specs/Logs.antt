@@ -14,7 +14,10 @@ is_access other = false
 
 -- what is noted of a hart at a bank, or at none, with its number
 abbrev pub log_entry : Entry → HartId → Option ℕ → ℕ → LogEntry
-log_entry entry hart bank number = record { event = record { number = number; hart = hart; engine = entry.engine; what = entry.what }; bank = bank }
+log_entry entry hart bank number = record {
+  event = record { number = number; hart = hart; engine = entry.engine; what = entry.what };
+  bank = bank;
+}
 
 abbrev pub is_bank : Option ℕ → ℕ → Bool
 is_bank None bank = false
@@ -76,8 +79,8 @@ pub record IsRecord (limits : Limits) (n : ℕ) (harts banks : ℕ → List LogE
   pub no_hart : (hart : ℕ) → limits.harts ≤ hart → harts hart ≡ []
   pub no_bank : (bank : ℕ) → limits.banks ≤ bank → banks bank ≡ []
 
--- the logs of things that each have a number and a log, by their numbers: that of the first with the number, empty where
--- none has it
+-- the logs of things that each have a number and a log, by their numbers: that of the first with the number, empty
+-- where none has it
 abbrev pub log_of : {X : Type 0} → (X → ℕ) → (X → List LogEntry) → List X → ℕ → List LogEntry
 log_of number log [] k = []
 log_of number log (x ∷ xs) k = if number x == k then log x else log_of number log xs k

@@ -16,7 +16,8 @@ pub record RecordIdentity : Type 0 where
   pub id : TableId
   pub limits : Limits
 
--- a hart's pass: its record and hart, the hart's log, how often it looked at the devices, and their log when it looked last
+-- a hart's pass: its record and hart, the hart's log, how often it looked at the devices, and their log when it looked
+-- last
 pub record PassOfHart : Type 0 where
   pub id : TableId
   pub hart : HartId

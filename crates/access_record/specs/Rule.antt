@@ -79,8 +79,8 @@ pub record IsEnrolled (most : ℕ) (enrolled : List ℕ) (logs : ℕ → List Lo
   pub below : (k : ℕ) → most ≤ k → occurrences k enrolled ≡ 0
   pub others : (k : ℕ) → occurrences k enrolled ≡ 0 → logs k ≡ []
 
--- the logs are a record and each view fits them. Each enrolled hart's log is in exactly one view and no other hart has one;
--- banks likewise. Exactly one view is the founder's
+-- the logs are a record and each view fits them. Each enrolled hart's log is in exactly one view and no other hart has
+-- one; banks likewise. Exactly one view is the founder's
 pub record IsConsistent (limits : Limits) (n : ℕ) (views : List View) (all : AllLogs) : Type 0 where
   pub logs : IsRecord limits n all.harts all.banks
   pub fits : (seat : ℕ) (v : View) → get_elem? views seat ≡ some v → Fits all v
@@ -98,7 +98,13 @@ abbrev pub view_of : List HartView → List BankView → View
 view_of harts banks = record { founder = false; enrolled_harts = []; enrolled_banks = []; harts = harts; banks = banks }
 
 abbrev pub founder_with : List ℕ → List ℕ → List HartView → List BankView → View
-founder_with enrolled_harts enrolled_banks harts banks = record { founder = true; enrolled_harts = enrolled_harts; enrolled_banks = enrolled_banks; harts = harts; banks = banks }
+founder_with enrolled_harts enrolled_banks harts banks = record {
+  founder = true;
+  enrolled_harts = enrolled_harts;
+  enrolled_banks = enrolled_banks;
+  harts = harts;
+  banks = banks;
+}
 
 -- the founder's view at the beginning
 abbrev pub founder_alone : View

@@ -77,7 +77,9 @@ bank_with_entry p e = record p { log = p.log ++ e ∷ [] }
 abbrev pub with_entry : Entry → ℕ → List HartView → List BankView → View
 with_entry entry number [] banks = view_of [] banks
 with_entry entry number (p ∷ ps) [] = view_of (hart_with_entry p (log_entry entry p.hart None number) ∷ ps) []
-with_entry entry number (p ∷ ps) (d ∷ ds) = view_of (hart_with_entry p (log_entry entry p.hart (Some d.bank) number) ∷ ps) (bank_with_entry d (log_entry entry p.hart (Some d.bank) number) ∷ ds)
+with_entry entry number (p ∷ ps) (d ∷ ds) = view_of
+    (hart_with_entry p (log_entry entry p.hart (Some d.bank) number) ∷ ps)
+    (bank_with_entry d (log_entry entry p.hart (Some d.bank) number) ∷ ds)
 
 -- the first hart looked at the first bank's log
 abbrev pub with_look : List HartView → List BankView → View

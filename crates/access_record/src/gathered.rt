@@ -35,7 +35,9 @@ impl Model for Gathered {
 
     ghost view = { λ g. all_in_view g.seat.table_id g.seat.me.0 };
 
-    ghost invariant = { λ g. (vec_len g.passes ≡ 0) × (vec_len g.bank_passes ≡ 0) × IsGathered g.seat.me g.harts g.banks g.count g.bank_count (vec_capacity g.passes) (vec_capacity g.bank_passes) };
+    ghost invariant = { λ g. (vec_len g.passes ≡ 0) × (vec_len g.bank_passes ≡ 0)
+        × IsGathered g.seat.me g.harts g.banks g.count g.bank_count
+        (vec_capacity g.passes) (vec_capacity g.bank_passes) };
 }
 
 // The seat takes in the logs of these passes, and their harts are listed in order. There are never
@@ -50,7 +52,8 @@ pub(crate) fn take_passes(
     requires record { All (λ p. p.id ≡ table.now.shared.table_id) passes.old.items }
     ensures table { seat.new.table_id ≡ seat.old.table_id }
     ensures logs { seat.new.me ≡ (with_passes passes.old.items seat.old.me.0, seat.old.me.1) }
-    ensures harts { length passes.old.items ≤ 256 → ListsHarts harts.new 0 (map view_of_pass passes.old.items) }
+    ensures harts { length passes.old.items ≤ 256
+        → ListsHarts harts.new 0 (map view_of_pass passes.old.items) }
     ensures room { (vec_len passes.new ≡ 0) × (vec_capacity passes.new ≡ vec_capacity passes.old) }
 {
     while let Some(pass) = passes.pop() {
@@ -71,7 +74,8 @@ pub(crate) fn take_bank_passes(
     requires record { All (λ p. p.id ≡ table.now.shared.table_id) passes.old.items }
     ensures table { seat.new.table_id ≡ seat.old.table_id }
     ensures logs { seat.new.me ≡ (with_bank_passes passes.old.items seat.old.me.0, seat.old.me.1) }
-    ensures banks { length passes.old.items ≤ 256 → ListsBanks banks.new 0 (map view_of_bank_pass passes.old.items) }
+    ensures banks { length passes.old.items ≤ 256
+        → ListsBanks banks.new 0 (map view_of_bank_pass passes.old.items) }
     ensures room { (vec_len passes.new ≡ 0) × (vec_capacity passes.new ≡ vec_capacity passes.old) }
 {
     while let Some(pass) = passes.pop() {

@@ -108,7 +108,8 @@ impl AccessRecord {
         requires room { length pass.log < self.now.limits.room }
         requires access { is_access entry.what ≡ true }
         ensures pass { result.0 ≡ add_entry pass (log_entry entry pass.hart (Some bank_pass.bank) result.2) }
-        ensures bank_pass { result.1 ≡ add_bank_entry bank_pass (log_entry entry pass.hart (Some bank_pass.bank) result.2) }
+        ensures bank_pass { result.1
+            ≡ add_bank_entry bank_pass (log_entry entry pass.hart (Some bank_pass.bank) result.2) }
         ensures above { Ascends 0 result.2 pass.log × Ascends 0 result.2 bank_pass.log }
         ensures agree { on_bank bank_pass.bank pass.log ≡ of_hart pass.hart.0 bank_pass.log }
     {
@@ -179,7 +180,8 @@ impl AccessRecord {
         requires harts { EachHasPass founder.harts passes.items }
         requires banks { EachHasBankPass founder.banks bank_passes.items }
         ensures same { result ≡ all_passes founder passes.items bank_passes.items }
-        ensures known { (n : ℕ) × IsRecord self.now.limits n (logs_of passes.items) (bank_logs_of bank_passes.items) }
+        ensures known { (n : ℕ)
+            × IsRecord self.now.limits n (logs_of passes.items) (bank_logs_of bank_passes.items) }
     {
         let Founder { mut seat } = founder;
         let count = passes.len();

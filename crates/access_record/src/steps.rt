@@ -228,10 +228,12 @@ pub(crate) fn note_both<N: EntryName>(
     requires name { N.entry ≡ entry.now }
     requires table { IsSeatOf seat.old.table_id table.now.shared.table_id }
     requires countable { IsCountable table.now.shared.key }
-    requires both { (p : HartView) × (d : BankView) × (seat.old.me ≡ (view_of (p ∷ []) (d ∷ []), [])) × (length p.log < table.now.shared.key.room) }
+    requires both { (p : HartView) × (d : BankView) × (seat.old.me ≡ (view_of (p ∷ []) (d ∷ []), []))
+        × (length p.log < table.now.shared.key.room) }
     requires access { is_access entry.now.what ≡ true }
     ensures table { seat.new.table_id ≡ seat.old.table_id }
-    ensures entry { seat.new.me ≡ (with_entry entry.now result seat.old.me.0.harts seat.old.me.0.banks, seat.old.me.1) }
+    ensures entry { seat.new.me
+        ≡ (with_entry entry.now result seat.old.me.0.harts seat.old.me.0.banks, seat.old.me.1) }
     ensures agree { AgreesAt result seat.old.me.0.harts seat.old.me.0.banks }
 {
     table.shared.fetch_add::<Notes<N>>(seat, 0, 1)
@@ -246,10 +248,12 @@ pub(crate) fn note_own<N: EntryName>(
     requires name { N.entry ≡ entry.now }
     requires table { IsSeatOf seat.old.table_id table.now.shared.table_id }
     requires countable { IsCountable table.now.shared.key }
-    requires alone { (p : HartView) × (seat.old.me ≡ (view_of (p ∷ []) [], [])) × (length p.log < table.now.shared.key.room) }
+    requires alone { (p : HartView) × (seat.old.me ≡ (view_of (p ∷ []) [], []))
+        × (length p.log < table.now.shared.key.room) }
     requires own { is_access entry.now.what ≡ false }
     ensures table { seat.new.table_id ≡ seat.old.table_id }
-    ensures entry { seat.new.me ≡ (with_entry entry.now result seat.old.me.0.harts seat.old.me.0.banks, seat.old.me.1) }
+    ensures entry { seat.new.me
+        ≡ (with_entry entry.now result seat.old.me.0.harts seat.old.me.0.banks, seat.old.me.1) }
     ensures agree { AgreesAt result seat.old.me.0.harts seat.old.me.0.banks }
 {
     table.shared.fetch_add::<Notes<N>>(seat, 0, 1)
