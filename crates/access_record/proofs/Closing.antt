@@ -20,11 +20,14 @@ use Rattle.access_record.proofs.Totals.{total-one}
 use Rattle.access_record.proofs.Having.{log_of-found, log_of-map, count_of-map, length-few}
 
 -- two functions to logs that agree everywhere
-is_record-same : (limits : Limits) (n : ℕ) (harts harts' banks banks' : ℕ → List LogEntry) → ((h : ℕ) → harts h ≡ harts' h) → ((b : ℕ) → banks b ≡ banks' b) → IsRecord limits n harts banks → IsRecord limits n harts' banks'
+is_record-same : (limits : Limits) (n : ℕ) (harts harts' banks banks' : ℕ → List LogEntry)
+    → ((h : ℕ) → harts h ≡ harts' h) → ((b : ℕ) → banks b ≡ banks' b) → IsRecord limits n harts banks
+    → IsRecord limits n harts' banks'
 is_record-same limits n harts harts' banks banks' same same_banks r = subst (λ (f : (ℕ → List LogEntry) × (ℕ → List LogEntry)). IsRecord limits n f.0 f.1) (λ i. ((λ h. same h i), (λ b. same_banks b i))) r
 
 -- a seat that has the logs of all who are enrolled has all logs
-whole : (limits : Limits) (n : ℕ) (id : ℕ) (v : View) (s : State ℕ View) (k : MeetsRule limits s) → k.0 ≡ n → get_elem? s.views id ≡ some v → HasAllLogs v → IsWhole limits n v
+whole : (limits : Limits) (n : ℕ) (id : ℕ) (v : View) (s : State ℕ View) (k : MeetsRule limits s) → k.0 ≡ n
+    → get_elem? s.views id ≡ some v → HasAllLogs v → IsWhole limits n v
 whole limits n id v s k is at has =
     let all = k.1 in
     let kept = k.3 in
@@ -43,7 +46,8 @@ whole limits n id v s k is at has =
     }
 
 -- a look by a seat that has all logs: the rule is known of them, and nothing changes
-pub learns_rule : (limits : Limits) (slots id : ℕ) (step : Step ℕ) (me : Me ℕ View) → HasAllLogs me.0 → Allows (MeetsRule limits) slots id me 0 (λ n. n) (Knows limits step me)
+pub learns_rule : (limits : Limits) (slots id : ℕ) (step : Step ℕ) (me : Me ℕ View) → HasAllLogs me.0
+    → Allows (MeetsRule limits) slots id me 0 (λ n. n) (Knows limits step me)
 learns_rule limits slots id step me has s k homes at small =
     let n = k.0 in
     let v = me.0 in
@@ -52,7 +56,9 @@ learns_rule limits slots id step me has s k homes at small =
     subst P (sym k.2) (v, keeps, tt, (n, k.1, refl, subst (λ (vs : List View). IsConsistent limits n vs k.1) (sym same) k.3), (refl, whole limits n id v s k refl at has))
 
 -- what a closed table tells
-pub closes : (limits : Limits) (id : ℕ) (v : View) (words slots : List ℕ) → Final (Seen (MeetsRule limits) id v) words slots → HasAllLogs v → (count : ℕ) → get_elem? words 0 ≡ some count → IsRecord limits count (log_in v.harts) (bank_log_in v.banks)
+pub closes : (limits : Limits) (id : ℕ) (v : View) (words slots : List ℕ)
+    → Final (Seen (MeetsRule limits) id v) words slots → HasAllLogs v → (count : ℕ) → get_elem? words 0 ≡ some count
+    → IsRecord limits count (log_in v.harts) (bank_log_in v.banks)
 closes limits id v words slots final has count word =
     let s = final.0 in
     let k = final.1.0 in
@@ -60,7 +66,8 @@ closes limits id v words slots final has count word =
     (whole limits count id v s k is final.1.1 has).logs
 
 -- a view has the logs of all whom it lists where the passes that it stands for are those of all
-pub has_all_logs : (id : TableId) (v : View) (all : AllPasses) → all_in_view id v ≡ all → v.founder ≡ true → EachHasPass all.harts all.passes → EachHasBankPass all.banks all.bank_passes → HasAllLogs v
+pub has_all_logs : (id : TableId) (v : View) (all : AllPasses) → all_in_view id v ≡ all → v.founder ≡ true
+    → EachHasPass all.harts all.passes → EachHasBankPass all.banks all.bank_passes → HasAllLogs v
 has_all_logs id v all is founder each each_bank =
     let a : EachHasPass v.enrolled_harts (map (pass_of id) v.harts) = subst (λ (x : AllPasses). EachHasPass x.harts x.passes) (sym is) each in
     let b : EachHasBankPass v.enrolled_banks (map (bank_pass_of id) v.banks) = subst (λ (x : AllPasses). EachHasBankPass x.banks x.bank_passes) (sym is) each_bank in
@@ -71,7 +78,9 @@ has_all_logs id v all is founder each each_bank =
     }
 
 -- a record of a view's logs is one of the logs of the passes that it stands for
-pub record_of_passes : (limits : Limits) (n : ℕ) (id : TableId) (v : View) (all : AllPasses) → all_in_view id v ≡ all → IsRecord limits n (log_in v.harts) (bank_log_in v.banks) → IsRecord limits n (logs_of all.passes) (bank_logs_of all.bank_passes)
+pub record_of_passes : (limits : Limits) (n : ℕ) (id : TableId) (v : View) (all : AllPasses) → all_in_view id v ≡ all
+    → IsRecord limits n (log_in v.harts) (bank_log_in v.banks)
+    → IsRecord limits n (logs_of all.passes) (bank_logs_of all.bank_passes)
 record_of_passes limits n id v all is r = subst (λ (x : AllPasses). IsRecord limits n (logs_of x.passes) (bank_logs_of x.bank_passes)) is
     (is_record-same limits n (log_in v.harts) (logs_of (map (pass_of id) v.harts)) (bank_log_in v.banks) (bank_logs_of (map (bank_pass_of id) v.banks))
     (λ h. sym (log_of-map (pass_of id) (λ (p : PassOfHart). p.hart.0) (λ (p : PassOfHart). p.log) h v.harts))

@@ -8,11 +8,13 @@ use Rattle.access_record.specs.declared.entry.LogEntry.{LogEntry}
 use Rattle.access_record.specs.Logs.{is_access, is_bank, has_bank, names_bank, names_hart, on_bank, of_hart, Ascends, AreOfHart, HasNumber, IsInOneLog, sum_below, IsRecord}
 use Rattle.access_record.proofs.Totals.{put, put-same, put-other, put-all, sum_below-put}
 
-pub ascends-push : (low high : ℕ) (log : List LogEntry) (e : LogEntry) → Ascends low high log → e.event.number ≡ high → Ascends low (suc high) (log ++ e ∷ [])
+pub ascends-push : (low high : ℕ) (log : List LogEntry) (e : LogEntry) → Ascends low high log → e.event.number ≡ high
+    → Ascends low (suc high) (log ++ e ∷ [])
 ascends-push low high [] e a is = (omega arith, omega arith)
 ascends-push low high (x ∷ xs) e a is = (a.0, ascends-push (suc x.event.number) high xs e a.1 is)
 
-pub ascends-wider : (low high more : ℕ) (log : List LogEntry) → high ≤ more → Ascends low high log → Ascends low more log
+pub ascends-wider : (low high more : ℕ) (log : List LogEntry) → high ≤ more → Ascends low high log
+    → Ascends low more log
 ascends-wider low high more [] le a = omega arith
 ascends-wider low high more (x ∷ xs) le a = (a.0, ascends-wider (suc x.event.number) high more xs le a.1)
 
@@ -32,45 +34,55 @@ pub has_number-longer : (k : ℕ) (log : List LogEntry) (e : LogEntry) → HasNu
 has_number-longer k [] e s = absurd s
 has_number-longer k (x ∷ xs) e s = ⊎_elim (λ is. inl is) (λ t. inr (has_number-longer k xs e t)) s
 
-pub has_number-back : (k : ℕ) (log : List LogEntry) (e : LogEntry) → e.event.number ≢ k → HasNumber k (log ++ e ∷ []) → HasNumber k log
+pub has_number-back : (k : ℕ) (log : List LogEntry) (e : LogEntry) → e.event.number ≢ k → HasNumber k (log ++ e ∷ [])
+    → HasNumber k log
 has_number-back k [] e ne s = ⊎_elim (λ is. absurd (ne is)) (λ t. absurd t) s
 has_number-back k (x ∷ xs) e ne s = ⊎_elim (λ is. inl is) (λ t. inr (has_number-back k xs e ne t)) s
 
-pub are_of_hart-push : (hart : ℕ) (log : List LogEntry) (e : LogEntry) → AreOfHart hart log → (e.event.hart.0 ≡ hart) × (is_access e.event.what ≡ has_bank e.bank) → AreOfHart hart (log ++ e ∷ [])
+pub are_of_hart-push : (hart : ℕ) (log : List LogEntry) (e : LogEntry) → AreOfHart hart log
+    → (e.event.hart.0 ≡ hart) × (is_access e.event.what ≡ has_bank e.bank) → AreOfHart hart (log ++ e ∷ [])
 are_of_hart-push hart [] e a is = (is, tt)
 are_of_hart-push hart (x ∷ xs) e a is = (a.0, are_of_hart-push hart xs e a.1 is)
 
 -- what a filter keeps of a list and one entry more
-filter-yes : (p : LogEntry → Bool) (log : List LogEntry) (e : LogEntry) → p e ≡ true → filter p (log ++ e ∷ []) ≡ filter p log ++ e ∷ []
+filter-yes : (p : LogEntry → Bool) (log : List LogEntry) (e : LogEntry) → p e ≡ true
+    → filter p (log ++ e ∷ []) ≡ filter p log ++ e ∷ []
 filter-yes p log e is = filter-append p log (e ∷ []) ∙ ap (λ l. filter p log ++ l) (one p e is)
   where
     one : (p : LogEntry → Bool) (e : LogEntry) → p e ≡ true → filter p (e ∷ []) ≡ e ∷ []
     one p e is = rw is refl
 
-filter-no : (p : LogEntry → Bool) (log : List LogEntry) (e : LogEntry) → p e ≡ false → filter p (log ++ e ∷ []) ≡ filter p log
+filter-no : (p : LogEntry → Bool) (log : List LogEntry) (e : LogEntry) → p e ≡ false
+    → filter p (log ++ e ∷ []) ≡ filter p log
 filter-no p log e is = filter-append p log (e ∷ []) ∙ (ap (λ l. filter p log ++ l) (one p e is) ∙ append-nil (filter p log))
   where
     one : (p : LogEntry → Bool) (e : LogEntry) → p e ≡ false → filter p (e ∷ []) ≡ []
     one p e is = rw is refl
 
-pub on_bank-yes : (bank : ℕ) (log : List LogEntry) (e : LogEntry) → names_bank bank e ≡ true → on_bank bank (log ++ e ∷ []) ≡ on_bank bank log ++ e ∷ []
+pub on_bank-yes : (bank : ℕ) (log : List LogEntry) (e : LogEntry) → names_bank bank e ≡ true
+    → on_bank bank (log ++ e ∷ []) ≡ on_bank bank log ++ e ∷ []
 unfolding on_bank
 on_bank-yes bank log e is = filter-yes (names_bank bank) log e is
 
-pub on_bank-no : (bank : ℕ) (log : List LogEntry) (e : LogEntry) → names_bank bank e ≡ false → on_bank bank (log ++ e ∷ []) ≡ on_bank bank log
+pub on_bank-no : (bank : ℕ) (log : List LogEntry) (e : LogEntry) → names_bank bank e ≡ false
+    → on_bank bank (log ++ e ∷ []) ≡ on_bank bank log
 unfolding on_bank
 on_bank-no bank log e is = filter-no (names_bank bank) log e is
 
-pub of_hart-yes : (hart : ℕ) (log : List LogEntry) (e : LogEntry) → names_hart hart e ≡ true → of_hart hart (log ++ e ∷ []) ≡ of_hart hart log ++ e ∷ []
+pub of_hart-yes : (hart : ℕ) (log : List LogEntry) (e : LogEntry) → names_hart hart e ≡ true
+    → of_hart hart (log ++ e ∷ []) ≡ of_hart hart log ++ e ∷ []
 unfolding of_hart
 of_hart-yes hart log e is = filter-yes (names_hart hart) log e is
 
-pub of_hart-no : (hart : ℕ) (log : List LogEntry) (e : LogEntry) → names_hart hart e ≡ false → of_hart hart (log ++ e ∷ []) ≡ of_hart hart log
+pub of_hart-no : (hart : ℕ) (log : List LogEntry) (e : LogEntry) → names_hart hart e ≡ false
+    → of_hart hart (log ++ e ∷ []) ≡ of_hart hart log
 unfolding of_hart
 of_hart-no hart log e is = filter-no (names_hart hart) log e is
 
 -- the new number stands once, and the others as before
-in_one_log-push : (limits : Limits) (n : ℕ) (harts banks : ℕ → List LogEntry) (h : ℕ) (e : LogEntry) → IsRecord limits n harts banks → e.event.number ≡ n → (k : ℕ) → k < suc n → IsInOneLog (put harts h (harts h ++ e ∷ [])) k
+in_one_log-push : (limits : Limits) (n : ℕ) (harts banks : ℕ → List LogEntry) (h : ℕ) (e : LogEntry)
+    → IsRecord limits n harts banks → e.event.number ≡ n → (k : ℕ) → k < suc n
+    → IsInOneLog (put harts h (harts h ++ e ∷ [])) k
 in_one_log-push limits n harts banks h e r number k lt = by_test (ℕ_discrete k n)
   where
     by_test : Dec (k ≡ n) → IsInOneLog (put harts h (harts h ++ e ∷ [])) k
@@ -86,7 +98,9 @@ in_one_log-push limits n harts banks h e r number k lt = by_test (ℕ_discrete k
           alone = λ g s. o.alone g (put-all (λ j l. HasNumber k l → HasNumber k (harts j)) harts h (harts h ++ e ∷ []) (has_number-back k (harts h) e other) (λ j apart t. t) g s);
         }
 
-sum_below-push : (limits : Limits) (n : ℕ) (harts banks : ℕ → List LogEntry) (h : ℕ) (e : LogEntry) → IsRecord limits n harts banks → h < limits.harts → suc n ≡ sum_below limits.harts (λ j. length (put harts h (harts h ++ e ∷ []) j))
+sum_below-push : (limits : Limits) (n : ℕ) (harts banks : ℕ → List LogEntry) (h : ℕ) (e : LogEntry)
+    → IsRecord limits n harts banks → h < limits.harts
+    → suc n ≡ sum_below limits.harts (λ j. length (put harts h (harts h ++ e ∷ []) j))
 sum_below-push limits n harts banks h e r h_in =
     let now = put harts h (harts h ++ e ∷ []) in
     let s = sum_below-put limits.harts (λ j. length (harts j)) (λ j. length (now j)) h h_in (λ j ne. ap length (sym (put-other harts h (harts h ++ e ∷ []) j ne))) in
@@ -94,7 +108,8 @@ sum_below-push limits n harts banks h e r h_in =
     let c = r.count in omega arith
 
 -- an access of hart h at bank b
-pub record-access : (limits : Limits) (n : ℕ) (harts banks : ℕ → List LogEntry) (h b : ℕ) (e : LogEntry) → IsRecord limits n harts banks → h < limits.harts → b < limits.banks → length (harts h) < limits.room
+pub record-access : (limits : Limits) (n : ℕ) (harts banks : ℕ → List LogEntry) (h b : ℕ) (e : LogEntry)
+    → IsRecord limits n harts banks → h < limits.harts → b < limits.banks → length (harts h) < limits.room
     → e.event.number ≡ n → e.event.hart.0 ≡ h → e.bank ≡ Some b → is_access e.event.what ≡ true
     → IsRecord limits (suc n) (put harts h (harts h ++ e ∷ [])) (put banks b (banks b ++ e ∷ []))
 record-access limits n harts banks h b e r h_in b_in room number hart bank access =
@@ -120,7 +135,8 @@ record-access limits n harts banks h b e r h_in b_in room number hart bank acces
     }
 
 -- an end or a handover of hart h
-pub record-own : (limits : Limits) (n : ℕ) (harts banks : ℕ → List LogEntry) (h : ℕ) (e : LogEntry) → IsRecord limits n harts banks → h < limits.harts → length (harts h) < limits.room
+pub record-own : (limits : Limits) (n : ℕ) (harts banks : ℕ → List LogEntry) (h : ℕ) (e : LogEntry)
+    → IsRecord limits n harts banks → h < limits.harts → length (harts h) < limits.room
     → e.event.number ≡ n → e.event.hart.0 ≡ h → e.bank ≡ None → is_access e.event.what ≡ false
     → IsRecord limits (suc n) (put harts h (harts h ++ e ∷ [])) banks
 record-own limits n harts banks h e r h_in room number hart bank access =

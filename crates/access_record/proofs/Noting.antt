@@ -23,8 +23,10 @@ record HasLog (most k : ℕ) (enrolled : List ℕ) (in_view : View → ℕ) (vie
   enrolled_once : occurrences k enrolled ≡ 1
   none_else : (j : ℕ) (u : View) → j ≢ id → get_elem? views j ≡ some u → in_view u ≡ 0
 
-has_log : (most k : ℕ) (enrolled : List ℕ) (logs : ℕ → List LogEntry) (in_view : View → ℕ) (views : List View) (id : ℕ) (v : View)
-    → IsEnrolled most enrolled logs → total in_view views ≡ occurrences k enrolled → get_elem? views id ≡ some v → in_view v ≡ 1 → HasLog most k enrolled in_view views id
+has_log : (most k : ℕ) (enrolled : List ℕ) (logs : ℕ → List LogEntry) (in_view : View → ℕ) (views : List View)
+    (id : ℕ) (v : View)
+    → IsEnrolled most enrolled logs → total in_view views ≡ occurrences k enrolled → get_elem? views id ≡ some v
+    → in_view v ≡ 1 → HasLog most k enrolled in_view views id
 has_log most k enrolled logs in_view views id v e in_one at one =
     let once = e.once k in
     let here = total-one in_view views id v at in
@@ -34,16 +36,21 @@ has_log most k enrolled logs in_view views id v e in_one at one =
       none_else = λ j u ne there. let t = total-two in_view views id j v u ne at there in omega arith;
     }
 
-has_hart : (limits : Limits) (n : ℕ) (views : List View) (all : AllLogs) (id : ℕ) (p : HartView) (ds : List BankView) → IsConsistent limits n views all → get_elem? views id ≡ some (view_of (p ∷ []) ds) → HasLog limits.harts p.hart.0 all.enrolled_harts (hart_in p.hart.0) views id
+has_hart : (limits : Limits) (n : ℕ) (views : List View) (all : AllLogs) (id : ℕ) (p : HartView) (ds : List BankView)
+    → IsConsistent limits n views all → get_elem? views id ≡ some (view_of (p ∷ []) ds)
+    → HasLog limits.harts p.hart.0 all.enrolled_harts (hart_in p.hart.0) views id
 has_hart limits n views all id p ds kept at =
     has_log limits.harts p.hart.0 all.enrolled_harts all.harts (hart_in p.hart.0) views id (view_of (p ∷ []) ds) kept.harts (kept.harts_in_one p.hart.0) at (let c = one_if-same p.hart.0 in omega arith)
 
-has_bank : (limits : Limits) (n : ℕ) (views : List View) (all : AllLogs) (id : ℕ) (ps : List HartView) (d : BankView) → IsConsistent limits n views all → get_elem? views id ≡ some (view_of ps (d ∷ [])) → HasLog limits.banks d.bank all.enrolled_banks (bank_in d.bank) views id
+has_bank : (limits : Limits) (n : ℕ) (views : List View) (all : AllLogs) (id : ℕ) (ps : List HartView) (d : BankView)
+    → IsConsistent limits n views all → get_elem? views id ≡ some (view_of ps (d ∷ []))
+    → HasLog limits.banks d.bank all.enrolled_banks (bank_in d.bank) views id
 has_bank limits n views all id ps d kept at =
     has_log limits.banks d.bank all.enrolled_banks all.banks (bank_in d.bank) views id (view_of ps (d ∷ [])) kept.banks (kept.banks_in_one d.bank) at (let c = one_if-same d.bank in omega arith)
 
 -- an enrolled one's log may change
-enrolled-put : (most : ℕ) (enrolled : List ℕ) (logs : ℕ → List LogEntry) (k : ℕ) (new : List LogEntry) → occurrences k enrolled ≡ 1 → IsEnrolled most enrolled logs → IsEnrolled most enrolled (put logs k new)
+enrolled-put : (most : ℕ) (enrolled : List ℕ) (logs : ℕ → List LogEntry) (k : ℕ) (new : List LogEntry)
+    → occurrences k enrolled ≡ 1 → IsEnrolled most enrolled logs → IsEnrolled most enrolled (put logs k new)
 enrolled-put most enrolled logs k new one e = record {
   once = e.once;
   below = e.below;
@@ -51,7 +58,10 @@ enrolled-put most enrolled logs k new one e = record {
 }
 
 -- an access is noted
-consistent-access : (limits : Limits) (n : ℕ) (views : List View) (all : AllLogs) (id : ℕ) (entry : Entry) (p : HartView) (d : BankView) → IsConsistent limits n views all → get_elem? views id ≡ some (view_of (p ∷ []) (d ∷ [])) → length p.log < limits.room → is_access entry.what ≡ true
+consistent-access : (limits : Limits) (n : ℕ) (views : List View) (all : AllLogs) (id : ℕ) (entry : Entry)
+    (p : HartView) (d : BankView)
+    → IsConsistent limits n views all → get_elem? views id ≡ some (view_of (p ∷ []) (d ∷ []))
+    → length p.log < limits.room → is_access entry.what ≡ true
     → (now : AllLogs) × IsConsistent limits (suc n) (set views id (with_entry entry n (p ∷ []) (d ∷ []))) now
 consistent-access limits n views all id entry p d kept at room access =
     let v : View = view_of (p ∷ []) (d ∷ []) in
@@ -87,7 +97,9 @@ consistent-access limits n views all id entry p d kept at room access =
     )
 
 -- an end or a handover is noted
-consistent-own : (limits : Limits) (n : ℕ) (views : List View) (all : AllLogs) (id : ℕ) (entry : Entry) (p : HartView) → IsConsistent limits n views all → get_elem? views id ≡ some (view_of (p ∷ []) []) → length p.log < limits.room → is_access entry.what ≡ false
+consistent-own : (limits : Limits) (n : ℕ) (views : List View) (all : AllLogs) (id : ℕ) (entry : Entry) (p : HartView)
+    → IsConsistent limits n views all → get_elem? views id ≡ some (view_of (p ∷ []) []) → length p.log < limits.room
+    → is_access entry.what ≡ false
     → (now : AllLogs) × IsConsistent limits (suc n) (set views id (with_entry entry n (p ∷ []) [])) now
 consistent-own limits n views all id entry p kept at room own =
     let v : View = view_of (p ∷ []) [] in
@@ -113,7 +125,9 @@ consistent-own limits n views all id entry p kept at room own =
     )
 
 -- a hart looks at the devices
-consistent-look : (limits : Limits) (n : ℕ) (views : List View) (all : AllLogs) (id : ℕ) (p : HartView) (d : BankView) → IsConsistent limits n views all → get_elem? views id ≡ some (view_of (p ∷ []) (d ∷ [])) → IsConsistent limits n (set views id (with_look (p ∷ []) (d ∷ []))) all
+consistent-look : (limits : Limits) (n : ℕ) (views : List View) (all : AllLogs) (id : ℕ) (p : HartView) (d : BankView)
+    → IsConsistent limits n views all → get_elem? views id ≡ some (view_of (p ∷ []) (d ∷ []))
+    → IsConsistent limits n (set views id (with_look (p ∷ []) (d ∷ []))) all
 consistent-look limits n views all id p d kept at =
     let v : View = view_of (p ∷ []) (d ∷ []) in
     let w : View = with_look (p ∷ []) (d ∷ []) in
@@ -128,7 +142,9 @@ consistent-look limits n views all id p d kept at =
     }
 
 -- what the rule tells a seat of its logs
-agrees-both : (limits : Limits) (n : ℕ) (views : List View) (all : AllLogs) (id : ℕ) (p : HartView) (d : BankView) → IsConsistent limits n views all → get_elem? views id ≡ some (view_of (p ∷ []) (d ∷ [])) → AgreesAt n (p ∷ []) (d ∷ [])
+agrees-both : (limits : Limits) (n : ℕ) (views : List View) (all : AllLogs) (id : ℕ) (p : HartView) (d : BankView)
+    → IsConsistent limits n views all → get_elem? views id ≡ some (view_of (p ∷ []) (d ∷ []))
+    → AgreesAt n (p ∷ []) (d ∷ [])
 agrees-both limits n views all id p d kept at =
     let f = kept.fits id (view_of (p ∷ []) (d ∷ [])) at in (
       subst (Ascends 0 n) (sym f.harts.0) (kept.logs.hart_numbers p.hart.0),
@@ -136,19 +152,24 @@ agrees-both limits n views all id p d kept at =
       ap (on_bank d.bank) f.harts.0 ∙ (kept.logs.matched p.hart.0 d.bank ∙ ap (of_hart p.hart.0) (sym f.banks.0)),
     )
 
-agrees-own : (limits : Limits) (n : ℕ) (views : List View) (all : AllLogs) (id : ℕ) (p : HartView) → IsConsistent limits n views all → get_elem? views id ≡ some (view_of (p ∷ []) []) → AgreesAt n (p ∷ []) []
+agrees-own : (limits : Limits) (n : ℕ) (views : List View) (all : AllLogs) (id : ℕ) (p : HartView)
+    → IsConsistent limits n views all → get_elem? views id ≡ some (view_of (p ∷ []) []) → AgreesAt n (p ∷ []) []
 agrees-own limits n views all id p kept at = subst (Ascends 0 n) (sym (kept.fits id (view_of (p ∷ []) []) at).harts.0) (kept.logs.hart_numbers p.hart.0)
 
 -- the number of events, and so the next number, doesn't wrap
-counts : (limits : Limits) (n : ℕ) (harts banks : ℕ → List LogEntry) → IsRecord limits n harts banks → limits.harts * limits.room < 2 ^ 63 → (n + 1) % 2 ^ 64 ≡ suc n
+counts : (limits : Limits) (n : ℕ) (harts banks : ℕ → List LogEntry) → IsRecord limits n harts banks
+    → limits.harts * limits.room < 2 ^ 63 → (n + 1) % 2 ^ 64 ≡ suc n
 counts limits n harts banks r most =
     let a = sum_below-most limits.harts (λ (h : ℕ). length (harts h)) limits.room r.room in
     let c = r.count in
     let lt : n < 2 ^ 63 = omega arith in grind arith
 
 -- the step that notes an access may be made
-pub notes_both : (limits : Limits) (slots id : ℕ) (step : Step ℕ) (entry : Entry) (p : HartView) (d : BankView) → limits.harts * limits.room < 2 ^ 63 → length p.log < limits.room → is_access entry.what ≡ true
-    → Allows (MeetsRule limits) slots id (view_of (p ∷ []) (d ∷ []), []) 0 (λ n. (n + 1) % 2 ^ 64) (Enters entry step (view_of (p ∷ []) (d ∷ []), []))
+pub notes_both : (limits : Limits) (slots id : ℕ) (step : Step ℕ) (entry : Entry) (p : HartView) (d : BankView)
+    → limits.harts * limits.room < 2 ^ 63 → length p.log < limits.room → is_access entry.what ≡ true
+   
+    → Allows (MeetsRule limits) slots id (view_of (p ∷ []) (d ∷ []), []) 0 (λ n. (n + 1) % 2 ^ 64)
+    (Enters entry step (view_of (p ∷ []) (d ∷ []), []))
 notes_both limits slots id step entry p d most room access s k homes at small =
     let n = k.0 in
     let me : Me ℕ View = (view_of (p ∷ []) (d ∷ []), []) in
@@ -163,8 +184,11 @@ notes_both limits slots id step entry p d most room access s k homes at small =
     )
 
 -- the step that notes an end or a handover may be made
-pub notes_own : (limits : Limits) (slots id : ℕ) (step : Step ℕ) (entry : Entry) (p : HartView) → limits.harts * limits.room < 2 ^ 63 → length p.log < limits.room → is_access entry.what ≡ false
-    → Allows (MeetsRule limits) slots id (view_of (p ∷ []) [], []) 0 (λ n. (n + 1) % 2 ^ 64) (Enters entry step (view_of (p ∷ []) [], []))
+pub notes_own : (limits : Limits) (slots id : ℕ) (step : Step ℕ) (entry : Entry) (p : HartView)
+    → limits.harts * limits.room < 2 ^ 63 → length p.log < limits.room → is_access entry.what ≡ false
+   
+    → Allows (MeetsRule limits) slots id (view_of (p ∷ []) [], []) 0 (λ n. (n + 1) % 2 ^ 64)
+    (Enters entry step (view_of (p ∷ []) [], []))
 notes_own limits slots id step entry p most room own s k homes at small =
     let n = k.0 in
     let me : Me ℕ View = (view_of (p ∷ []) [], []) in
@@ -179,7 +203,9 @@ notes_own limits slots id step entry p most room own s k homes at small =
     )
 
 -- the step that looks may be made
-pub looks : (limits : Limits) (slots id : ℕ) (step : Step ℕ) (p : HartView) (d : BankView) → Allows (MeetsRule limits) slots id (view_of (p ∷ []) (d ∷ []), []) 0 (λ n. n) (Looks step (view_of (p ∷ []) (d ∷ []), []))
+pub looks : (limits : Limits) (slots id : ℕ) (step : Step ℕ) (p : HartView) (d : BankView)
+    → Allows (MeetsRule limits) slots id (view_of (p ∷ []) (d ∷ []), []) 0 (λ n. n) (Looks step (view_of (p ∷ [])
+    (d ∷ []), []))
 looks limits slots id step p d s k homes at small =
     let n = k.0 in
     let me : Me ℕ View = (view_of (p ∷ []) (d ∷ []), []) in

@@ -55,7 +55,8 @@ consistent-begin limits = record {
 pub meets_rule-begin : (limits : Limits) → MeetsRule limits (record { words = 0 ∷ []; homes = []; views = founder_alone ∷ [] })
 meets_rule-begin limits = (0, no_logs, refl, consistent-begin limits)
 
-pub joins : (limits : Limits) (id : ℕ) (v : View) (other : ℕ) (w : View) → w.founder ≡ false → Joins (MeetsRule limits) id v other w (union v w) empty_view
+pub joins : (limits : Limits) (id : ℕ) (v : View) (other : ℕ) (w : View) → w.founder ≡ false
+    → Joins (MeetsRule limits) id v other w (union v w) empty_view
 joins limits id v other w plain s k at ne there =
     let all = k.1 in
     let kept = k.3 in
@@ -84,7 +85,9 @@ joins limits id v other w plain s k at ne there =
     )
 
 -- what holds of each view, after one has changed and one is new
-all-parted : (F : View → Type 0) (views : List View) (id : ℕ) (left right : View) → F left → F right → ((j : ℕ) (u : View) → j ≢ id → get_elem? views j ≡ some u → F u) → (j : ℕ) (u : View) → get_elem? (set views id left ++ right ∷ []) j ≡ some u → F u
+all-parted : (F : View → Type 0) (views : List View) (id : ℕ) (left right : View) → F left → F right
+    → ((j : ℕ) (u : View) → j ≢ id → get_elem? views j ≡ some u → F u) → (j : ℕ) (u : View)
+    → get_elem? (set views id left ++ right ∷ []) j ≡ some u → F u
 all-parted F views id left right l r others j u e = ⊎_elim (λ (x : get_elem? (set views id left) j ≡ some u). all-set F views id left l others j u x) (λ (x : right ≡ u). subst F x r) (at_snoc (set views id left) right u j e)
 
 -- a split that shares out the logs of a view: each part fits, and together they have each log as often as the view
@@ -113,7 +116,8 @@ splits limits id v left right fit harts banks founder s k at =
     )
 
 -- the banks' logs go to a new seat
-pub splits_banks : (limits : Limits) (id : ℕ) (v : View) → Splits (MeetsRule limits) id v (without_banks v) (banks_alone v)
+pub splits_banks : (limits : Limits) (id : ℕ) (v : View)
+    → Splits (MeetsRule limits) id v (without_banks v) (banks_alone v)
 splits_banks limits id v = splits limits id v (without_banks v) (banks_alone v)
     (λ all f. (record { harts = f.harts; banks = tt; enrolment = f.enrolment }, record { harts = tt; banks = f.banks; enrolment = λ x. absurd cc }))
     (λ h. omega arith)
@@ -121,7 +125,8 @@ splits_banks limits id v = splits limits id v (without_banks v) (banks_alone v)
     (omega arith)
 
 -- the first hart's log goes to a new seat
-pub splits_first_hart : (limits : Limits) (id : ℕ) (v : View) → Splits (MeetsRule limits) id v (without_first_hart v) (first_hart_alone v)
+pub splits_first_hart : (limits : Limits) (id : ℕ) (v : View)
+    → Splits (MeetsRule limits) id v (without_first_hart v) (first_hart_alone v)
 splits_first_hart limits id v = splits limits id v (without_first_hart v) (first_hart_alone v)
     (λ all f. let h = have_logs-first hart_number hart_log all.harts v.harts f.harts in (record { harts = h.0; banks = f.banks; enrolment = f.enrolment }, record { harts = h.1; banks = tt; enrolment = λ x. absurd cc }))
     (λ h. count_of-first hart_number h v.harts)
@@ -129,7 +134,8 @@ splits_first_hart limits id v = splits limits id v (without_first_hart v) (first
     (omega arith)
 
 -- the first bank's log goes to a new seat
-pub splits_first_bank : (limits : Limits) (id : ℕ) (v : View) → Splits (MeetsRule limits) id v (without_first_bank v) (first_bank_alone v)
+pub splits_first_bank : (limits : Limits) (id : ℕ) (v : View)
+    → Splits (MeetsRule limits) id v (without_first_bank v) (first_bank_alone v)
 splits_first_bank limits id v = splits limits id v (without_first_bank v) (first_bank_alone v)
     (λ all f. let h = have_logs-first bank_number bank_log all.banks v.banks f.banks in (record { harts = f.harts; banks = h.0; enrolment = f.enrolment }, record { harts = tt; banks = h.1; enrolment = λ x. absurd cc }))
     (λ h. omega arith)
@@ -137,11 +143,13 @@ splits_first_bank limits id v = splits limits id v (without_first_bank v) (first
     (omega arith)
 
 -- a founder's view is the only one
-founder-alone : (views : List View) (id : ℕ) (v : View) → total founder_in views ≡ 1 → v.founder ≡ true → get_elem? views id ≡ some v → (j : ℕ) (u : View) → j ≢ id → get_elem? views j ≡ some u → u.founder ≡ true → ⊥
+founder-alone : (views : List View) (id : ℕ) (v : View) → total founder_in views ≡ 1 → v.founder ≡ true
+    → get_elem? views id ≡ some v → (j : ℕ) (u : View) → j ≢ id → get_elem? views j ≡ some u → u.founder ≡ true → ⊥
 founder-alone views id v one is at j u ne there too = let t = total-two founder_in views id j v u ne at there in let a : one_if v.founder ≡ 1 = ap one_if is in let c : one_if u.founder ≡ 1 = ap one_if too in absurd (omega arith)
 
 -- one more is enrolled
-enrolled-more : (most x : ℕ) (xs : List ℕ) (logs : ℕ → List LogEntry) → x < most → occurrences x xs ≡ 0 → IsEnrolled most xs logs → IsEnrolled most (x ∷ xs) logs
+enrolled-more : (most x : ℕ) (xs : List ℕ) (logs : ℕ → List LogEntry) → x < most → occurrences x xs ≡ 0
+    → IsEnrolled most xs logs → IsEnrolled most (x ∷ xs) logs
 enrolled-more most x xs logs lt free e = record {
   once = λ k. at k (ℕ_discrete x k);
   below = λ k le. let a = e.below k le in let c = one_if-other x k (λ (is : x ≡ k). omega arith) in omega arith;
@@ -152,7 +160,9 @@ enrolled-more most x xs logs lt free e = record {
     at k (yes is) = let a : occurrences k xs ≡ 0 = ap (λ (j : ℕ). occurrences j xs) (sym is) ∙ free in let c : one_if (x == k) ≡ 1 = ap one_if (eq-eqb x k is) in omega arith
     at k (no ne) = let a = e.once k in let c = one_if-other x k ne in omega arith
 
-pub enrols_hart : (limits : Limits) (id : ℕ) (v : View) (hart : HartId) → v.founder ≡ true → occurrences hart.0 v.enrolled_harts ≡ 0 → hart.0 < limits.harts → Splits (MeetsRule limits) id v (with_hart hart v) (new_hart hart)
+pub enrols_hart : (limits : Limits) (id : ℕ) (v : View) (hart : HartId) → v.founder ≡ true
+    → occurrences hart.0 v.enrolled_harts ≡ 0 → hart.0 < limits.harts
+    → Splits (MeetsRule limits) id v (with_hart hart v) (new_hart hart)
 enrols_hart limits id v hart founder free below s k at =
     let all = k.1 in
     let kept = k.3 in
@@ -177,7 +187,9 @@ enrols_hart limits id v hart founder free below s k at =
       },
     )
 
-pub enrols_bank : (limits : Limits) (id : ℕ) (v : View) (bank : ℕ) → v.founder ≡ true → occurrences bank v.enrolled_banks ≡ 0 → bank < limits.banks → Splits (MeetsRule limits) id v (with_bank bank v) (new_bank bank)
+pub enrols_bank : (limits : Limits) (id : ℕ) (v : View) (bank : ℕ) → v.founder ≡ true
+    → occurrences bank v.enrolled_banks ≡ 0 → bank < limits.banks
+    → Splits (MeetsRule limits) id v (with_bank bank v) (new_bank bank)
 enrols_bank limits id v bank founder free below s k at =
     let all = k.1 in
     let kept = k.3 in

@@ -15,11 +15,13 @@ use Rattle.access_record.specs.Passes.{PassOfHart, PassOfBank, Enrolment, IsFoun
 use Rattle.access_record.specs.Gathered.{Lists, all_in_view, all_passes}
 
 module _ {X N : Type 0} (name : X → N) (other : N) where
-  lists-set : (names : List N) (at : ℕ) (new : N) (k : ℕ) (xs : List X) → at < k → Lists name other names k xs → Lists name other (set names at new) k xs
+  lists-set : (names : List N) (at : ℕ) (new : N) (k : ℕ) (xs : List X) → at < k → Lists name other names k xs
+      → Lists name other (set names at new) k xs
   lists-set names at new k [] lt l = tt
   lists-set names at new k (x ∷ xs) lt l = (get_or-set_other names at k new other (λ (is : k ≡ at). omega arith) ∙ l.0, lists-set names at new (suc k) xs (omega arith) l.1)
 
-  lists-cons : (names : List N) (at : ℕ) (x : X) (xs : List X) → at < length names → Lists name other names (suc at) xs → Lists name other (set names at (name x)) at (x ∷ xs)
+  lists-cons : (names : List N) (at : ℕ) (x : X) (xs : List X) → at < length names
+      → Lists name other names (suc at) xs → Lists name other (set names at (name x)) at (x ∷ xs)
   lists-cons names at x xs lt l = (get_or-set_same names at (name x) other lt, lists-set names at (name x) (suc at) xs (omega arith) l)
 
 -- Q: the passes; X: what a seat has of one; N: the name in it
@@ -34,8 +36,11 @@ pub record HasTaken {Q X N : Type 0} (id_of : Q → TableId) (view : Q → X) (n
 module _ {Q X N : Type 0} (id_of : Q → TableId) (view : Q → X) (name : X → N) (other : N) (with : List Q → View → View) (alone : X → View) where
   -- one pass more is taken
   taken_more : ((q : Q) (done : List Q) (v : View) → union (with done v) (alone (view q)) ≡ with (q ∷ done) v)
-      → (id : TableId) (all before left : List Q) (p : Q) (was now next : Me ℕ View) (names : List N) (x : X) (v : View) (at : ℕ) (n : N)
-      → HasTaken id_of view name other with id all before was now names → before ≡ left ++ p ∷ [] → x ≡ view p → v ≡ alone x → name x ≡ n → next ≡ (union now.0 v, now.1) → at ≡ length left
+     
+      → (id : TableId) (all before left : List Q) (p : Q) (was now next : Me ℕ View) (names : List N) (x : X)
+      (v : View) (at : ℕ) (n : N)
+      → HasTaken id_of view name other with id all before was now names → before ≡ left ++ p ∷ [] → x ≡ view p
+      → v ≡ alone x → name x ≡ n → next ≡ (union now.0 v, now.1) → at ≡ length left
       → HasTaken id_of view name other with id all left was next (set names (at % 256) n)
   taken_more adds id all before left p was now next names x v at n has is x_is v_is n_is next_is at_is =
       let done = has.done in
@@ -62,18 +67,24 @@ HasTakenPasses id all left was now names = HasTaken (λ (p : PassOfHart). p.id) 
 abbrev pub HasTakenBankPasses : TableId → List PassOfBank → List PassOfBank → Me ℕ View → Me ℕ View → List ℕ → Type 0
 HasTakenBankPasses id all left was now names = HasTaken (λ (p : PassOfBank). p.id) view_of_bank_pass (λ (p : BankView). p.bank) 0 with_bank_passes id all left was now names
 
-pub takes_pass : (id : TableId) (all before left : List PassOfHart) (p : PassOfHart) (was now next : Me ℕ View) (names : List HartId) (x : HartView) (v : View) (at : ℕ) (hart : HartId)
-    → HasTakenPasses id all before was now names → before ≡ left ++ p ∷ [] → x ≡ view_of_pass p → v ≡ view_of (x ∷ []) [] → x.hart ≡ hart → next ≡ (union now.0 v, now.1) → at ≡ length left
+pub takes_pass : (id : TableId) (all before left : List PassOfHart) (p : PassOfHart) (was now next : Me ℕ View)
+    (names : List HartId) (x : HartView) (v : View) (at : ℕ) (hart : HartId)
+    → HasTakenPasses id all before was now names → before ≡ left ++ p ∷ [] → x ≡ view_of_pass p
+    → v ≡ view_of (x ∷ []) [] → x.hart ≡ hart → next ≡ (union now.0 v, now.1) → at ≡ length left
     → HasTakenPasses id all left was next (set names (at % 256) hart)
 takes_pass = taken_more (λ (p : PassOfHart). p.id) view_of_pass (λ (p : HartView). p.hart) some_hart with_passes (λ (x : HartView). view_of (x ∷ []) []) (λ q done v. refl)
 
-pub takes_bank_pass : (id : TableId) (all before left : List PassOfBank) (p : PassOfBank) (was now next : Me ℕ View) (names : List ℕ) (x : BankView) (v : View) (at : ℕ) (bank : ℕ)
-    → HasTakenBankPasses id all before was now names → before ≡ left ++ p ∷ [] → x ≡ view_of_bank_pass p → v ≡ view_of [] (x ∷ []) → x.bank ≡ bank → next ≡ (union now.0 v, now.1) → at ≡ length left
+pub takes_bank_pass : (id : TableId) (all before left : List PassOfBank) (p : PassOfBank) (was now next : Me ℕ View)
+    (names : List ℕ) (x : BankView) (v : View) (at : ℕ) (bank : ℕ)
+    → HasTakenBankPasses id all before was now names → before ≡ left ++ p ∷ [] → x ≡ view_of_bank_pass p
+    → v ≡ view_of [] (x ∷ []) → x.bank ≡ bank → next ≡ (union now.0 v, now.1) → at ≡ length left
     → HasTakenBankPasses id all left was next (set names (at % 256) bank)
 takes_bank_pass = taken_more (λ (p : PassOfBank). p.id) view_of_bank_pass (λ (p : BankView). p.bank) 0 with_bank_passes (λ (x : BankView). view_of [] (x ∷ [])) (λ q done v. refl)
 
 -- what a seat has of passes of one record are these passes
-passes-back : {Q X : Type 0} (id_of : Q → TableId) (view : Q → X) (pass : TableId → X → Q) → ((q : Q) → pass (id_of q) (view q) ≡ q) → (id : TableId) (qs : List Q) → All (λ (q : Q). id_of q ≡ id) qs → map (pass id) (map view qs ++ []) ≡ qs
+passes-back : {Q X : Type 0} (id_of : Q → TableId) (view : Q → X) (pass : TableId → X → Q)
+    → ((q : Q) → pass (id_of q) (view q) ≡ q) → (id : TableId) (qs : List Q) → All (λ (q : Q). id_of q ≡ id) qs
+    → map (pass id) (map view qs ++ []) ≡ qs
 passes-back id_of view pass back id [] a = refl
 passes-back {Q} id_of view pass back id (q ∷ qs) a =
     let e : id_of q ≡ id = All-head (λ (p : Q). id_of p ≡ id) q qs a in
@@ -84,15 +95,19 @@ passes-back {Q} id_of view pass back id (q ∷ qs) a =
 abbrev pub founder_and : Enrolment → List PassOfHart → List PassOfBank → View
 founder_and r ps ds = with_bank_passes ds (with_passes ps (founder_with r.harts r.banks [] []))
 
-pub all_in_view-back : (r : Enrolment) (ps : List PassOfHart) (ds : List PassOfBank) → All (λ (p : PassOfHart). p.id ≡ r.id) ps → All (λ (p : PassOfBank). p.id ≡ r.id) ds → all_in_view r.id (founder_and r ps ds) ≡ all_passes r ps ds
+pub all_in_view-back : (r : Enrolment) (ps : List PassOfHart) (ds : List PassOfBank)
+    → All (λ (p : PassOfHart). p.id ≡ r.id) ps → All (λ (p : PassOfBank). p.id ≡ r.id) ds
+    → all_in_view r.id (founder_and r ps ds) ≡ all_passes r ps ds
 all_in_view-back r ps ds a b =
     let p = passes-back (λ (q : PassOfHart). q.id) view_of_pass pass_of (λ q. refl) r.id ps a in
     let d = passes-back (λ (q : PassOfBank). q.id) view_of_bank_pass bank_pass_of (λ q. refl) r.id ds b in
     λ i. record { id = r.id; harts = r.harts; banks = r.banks; passes = p i; bank_passes = d i }
 
 -- the founder's seat has taken in all passes, which are of its record: it is the founder's still, and what it stands for
-pub all_taken : (r : Enrolment) (id table : TableId) (me one two : Me ℕ View) (ps : List PassOfHart) (ds : List PassOfBank)
-    → IsFounder me → enrolment_in table me.0 ≡ r → one ≡ (with_passes ps me.0, me.1) → two ≡ (with_bank_passes ds one.0, one.1)
+pub all_taken : (r : Enrolment) (id table : TableId) (me one two : Me ℕ View) (ps : List PassOfHart)
+    (ds : List PassOfBank)
+    → IsFounder me → enrolment_in table me.0 ≡ r → one ≡ (with_passes ps me.0, me.1)
+    → two ≡ (with_bank_passes ds one.0, one.1)
     → r.id ≡ id → All (λ (p : PassOfHart). p.id ≡ id) ps → All (λ (p : PassOfBank). p.id ≡ id) ds
     → (two.0.founder ≡ true) × (all_in_view r.id two.0 ≡ all_passes r ps ds)
 all_taken r id table me one two ps ds is listed one_is two_is same a b =
