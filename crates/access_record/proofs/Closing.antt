@@ -8,8 +8,6 @@ use Rattle.atomic_table.specs.Table.{State, Me, Step, Act, keeps, Valid, homes_a
 use Rattle.atomic_table.proofs.Lists.{set_again}
 use Rattle.access_record.specs.declared.limits.Limits.{Limits}
 use Rattle.access_record.specs.declared.entry.LogEntry.{LogEntry}
-use Rattle.access_record.specs.declared.view.HartView.{HartView}
-use Rattle.access_record.specs.declared.view.BankView.{BankView}
 use Rattle.access_record.specs.declared.view.View.{View}
 use Rattle.access_record.specs.Logs.{IsRecord}
 use Rattle.access_record.specs.Rule.{occurrences, hart_number, hart_log, bank_number, bank_log, hart_in, bank_in, log_in, bank_log_in, IsConsistent, MeetsRule}

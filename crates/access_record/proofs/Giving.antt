@@ -31,7 +31,6 @@ module _ {X Q N : Type 0} (pass : TableId → X → Q) (name : X → N) (other :
   -- one pass more is made
   given_more : ((n : N) (x : X) → first n (x ∷ []) ≡ x)
       → ((v : View) (x : X) (xs : List X) → rest (with v (x ∷ xs)) ≡ with v xs)
-     
       → (id : TableId) (count : ℕ) (all : List X) (was now next : Me ℕ View) (passes : List Q) (names : List N)
       (n : N) (made : Q) (done left : List X)
       → all ≡ done ++ left → now ≡ (with was.0 left, was.1) → passes ≡ map (pass id) done

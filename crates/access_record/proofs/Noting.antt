@@ -167,7 +167,6 @@ counts limits n harts banks r most =
 -- the step that notes an access may be made
 pub notes_both : (limits : Limits) (slots id : ℕ) (step : Step ℕ) (entry : Entry) (p : HartView) (d : BankView)
     → limits.harts * limits.room < 2 ^ 63 → length p.log < limits.room → is_access entry.what ≡ true
-   
     → Allows (MeetsRule limits) slots id (view_of (p ∷ []) (d ∷ []), []) 0 (λ n. (n + 1) % 2 ^ 64)
     (Enters entry step (view_of (p ∷ []) (d ∷ []), []))
 notes_both limits slots id step entry p d most room access s k homes at small =
@@ -186,7 +185,6 @@ notes_both limits slots id step entry p d most room access s k homes at small =
 -- the step that notes an end or a handover may be made
 pub notes_own : (limits : Limits) (slots id : ℕ) (step : Step ℕ) (entry : Entry) (p : HartView)
     → limits.harts * limits.room < 2 ^ 63 → length p.log < limits.room → is_access entry.what ≡ false
-   
     → Allows (MeetsRule limits) slots id (view_of (p ∷ []) [], []) 0 (λ n. (n + 1) % 2 ^ 64)
     (Enters entry step (view_of (p ∷ []) [], []))
 notes_own limits slots id step entry p most room own s k homes at small =
@@ -204,8 +202,11 @@ notes_own limits slots id step entry p most room own s k homes at small =
 
 -- the step that looks may be made
 pub looks : (limits : Limits) (slots id : ℕ) (step : Step ℕ) (p : HartView) (d : BankView)
-    → Allows (MeetsRule limits) slots id (view_of (p ∷ []) (d ∷ []), []) 0 (λ n. n) (Looks step (view_of (p ∷ [])
-    (d ∷ []), []))
+    → Allows (MeetsRule limits) slots id (view_of (p ∷ []) (d ∷ []), []) 0 (λ n. n) (Looks step (
+      view_of (p ∷ [])
+          (d ∷ []),
+      [],
+    ))
 looks limits slots id step p d s k homes at small =
     let n = k.0 in
     let me : Me ℕ View = (view_of (p ∷ []) (d ∷ []), []) in

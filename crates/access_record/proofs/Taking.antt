@@ -1,5 +1,5 @@
 -- How far one seat has taken in the logs of passes, which are taken from the end of their list.
-use Rattle.std.proofs.Common.{◌≡◌, ℕ, suc, ◌+◌, ◌%◌, ◌<◌, ◌≤◌, true, List, [], ◌∷◌, ◌++◌, map, length, set, refl, sym, ap, ◌∙◌, subst, arith, append_assoc, append-nil, length-append, Some}
+use Rattle.std.proofs.Common.{◌≡◌, ℕ, suc, ◌+◌, ◌%◌, ◌<◌, ◌≤◌, true, List, [], ◌∷◌, ◌++◌, map, length, set, refl, sym, ap, ◌∙◌, subst, arith, append_assoc, length-append, Some}
 use Rattle.std.specs.List.{All}
 use Rattle.std.proofs.lemmas.List.{get_or-set_same, get_or-set_other, length-set}
 use Rattle.std.proofs.lemmas.List.Elements.{All-pop, All-head, All-tail}
@@ -36,7 +36,6 @@ pub record HasTaken {Q X N : Type 0} (id_of : Q → TableId) (view : Q → X) (n
 module _ {Q X N : Type 0} (id_of : Q → TableId) (view : Q → X) (name : X → N) (other : N) (with : List Q → View → View) (alone : X → View) where
   -- one pass more is taken
   taken_more : ((q : Q) (done : List Q) (v : View) → union (with done v) (alone (view q)) ≡ with (q ∷ done) v)
-     
       → (id : TableId) (all before left : List Q) (p : Q) (was now next : Me ℕ View) (names : List N) (x : X)
       (v : View) (at : ℕ) (n : N)
       → HasTaken id_of view name other with id all before was now names → before ≡ left ++ p ∷ [] → x ≡ view p

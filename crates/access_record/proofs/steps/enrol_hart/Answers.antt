@@ -1,4 +1,4 @@
-use Rattle.std.proofs.Common.{ℕ, arith, sym, subst}
+use Rattle.std.proofs.Common.{arith, sym, subst}
 use Rattle.atomic_table.specs.Table.{Splits}
 use Rattle.flex_base.specs.declared.hart.HartId.{HartId}
 use Rattle.access_record.specs.Rule.{MeetsRule}

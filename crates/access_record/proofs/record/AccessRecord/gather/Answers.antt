@@ -1,4 +1,4 @@
-use Rattle.std.proofs.Common.{◌≡◌, ℕ, ap, ◌∙◌, subst, rules}
+use Rattle.std.proofs.Common.{◌≡◌, ℕ, ◌∙◌, subst, rules}
 use Rattle.atomic_table.specs.Table.{Me}
 use Rattle.access_record.specs.declared.view.View.{View}
 use Rattle.access_record.specs.Logs.{IsRecord}
