@@ -33,8 +33,8 @@ pub use line::Line;
 pub use operation::{AluOp, AmoOp, BranchOp, CsrOp, MulOp, Op};
 pub use outer::{Failed, MemoryOuter, Outer, RealOuter, SteadyOuter, TakeFault, write_whole};
 pub use reservation::{reservation_set, is_reserved};
-    FINISHER, Layout, MSIP, MTIME, MTIMECMP, Place, RAM_BASE, Settings, UART, UART_LSR,
 pub use settings::{
+    FINISHER, Layout, MSIP, MTIME, MTIMECMP, Place, RAM_BASE, Settings, UART, UART_LSR,
 };
 pub use text::Text;
 pub use translation::{Kind, Leaf, WalkStep};
