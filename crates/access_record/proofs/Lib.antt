@@ -4,5 +4,5 @@ mod Logging
 mod Splitting
 mod Noting
 mod Closing
-pub mod Taking
-pub mod Giving
+mod Taking
+mod Giving

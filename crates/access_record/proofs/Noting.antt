@@ -202,11 +202,8 @@ notes_own limits slots id step entry p most room own s k homes at small =
 
 -- the step that looks may be made
 pub looks : (limits : Limits) (slots id : ℕ) (step : Step ℕ) (p : HartView) (d : BankView)
-    → Allows (MeetsRule limits) slots id (view_of (p ∷ []) (d ∷ []), []) 0 (λ n. n) (Looks step (
-      view_of (p ∷ [])
-          (d ∷ []),
-      [],
-    ))
+    → Allows (MeetsRule limits) slots id (view_of (p ∷ []) (d ∷ []), []) 0 (λ n. n)
+    (Looks step (view_of (p ∷ []) (d ∷ []), []))
 looks limits slots id step p d s k homes at small =
     let n = k.0 in
     let me : Me ℕ View = (view_of (p ∷ []) (d ∷ []), []) in
