@@ -2,7 +2,11 @@ pub mod Places
 pub mod Stories
 pub mod Machines
 pub mod Orders
+pub mod Obeying
 pub mod Turns
-pub mod Quiet
 pub mod Standing
-pub mod Going
+pub mod Quiet
+pub mod OwnReservations
+pub mod StandingReservations
+pub mod EndOfRun
+pub mod KnownBytes

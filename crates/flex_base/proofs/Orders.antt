@@ -1,24 +1,23 @@
 -- A run's order is that of its events: names without an event change nothing, and a split run keeps the order.
-use Rattle.std.proofs.Common.{◌≡◌, ℕ, ◌+◌, zero, suc, arith, true, false, not, if◌then◌else◌, List, [], ◌∷◌, ◌++◌, map, filter, fold, length, refl, ap, sym, ◌∙◌, append_assoc, append-nil, slice_index_or}
+use Rattle.std.proofs.Common.{◌≡◌, ℕ, ◌+◌, ◌<◌, zero, suc, arith, true, false, not, if◌then◌else◌, List, [], ◌∷◌, ◌++◌, map, filter, fold, length, refl, ap, sym, ◌∙◌, append_assoc, append-nil}
 use Rattle.std.specs.List.{range_with_len}
 use Rattle.std.proofs.lemmas.List.{map-append, length_push}
 use Rattle.std.proofs.lemmas.List.Elements.{filter-append}
 use Rattle.flex_base.specs.Classes.{class_of_what}
 use Rattle.flex_base.specs.Setup.{Setup}
 use Rattle.flex_base.specs.Unsplit.{Machine, Made, begin, step, reach, reach_from, unsplit, does}
-use Rattle.flex_base.specs.Split.{Plan, Parted, part, parted, unparted, split, event, numbered, handed, is_same_engine}
-use Rattle.flex_base.specs.Journal.{is_handover, strip, order_of, numbers_of, moves_of, IsLegal, Obeys}
-use Rattle.flex_base.specs.declared.class.Class.TheVariants as class
+use Rattle.flex_base.specs.Split.{Plan, Splitting, split_event, split_run, first_split, split, event, with_number, with_handover, holder_of, is_same_engine, is_handover}
+use Rattle.flex_base.specs.Journal.{strip, order_of, numbers_of, IsLegal}
 use Rattle.flex_base.specs.declared.engine.Engine.{Engine}
 use Rattle.flex_base.specs.declared.event.Event.{Event}
 use Rattle.flex_base.specs.declared.event.What.{What}
 use Rattle.flex_base.specs.declared.event.What.TheVariants as what
 use Rattle.flex_base.proofs.Machines.{StepsTo, Stays, Adds, step_steps, reach-cons, reach-none}
 
--- none of these is a handover
-pub data NoHandover : List Made → Type 0 where
-  None : NoHandover []
-  More : (m : Made) (made : List Made) → is_handover m.what ≡ false → NoHandover made → NoHandover (m ∷ made)
+-- these are of so many harts, and none is a handover
+pub data Plain (harts : ℕ) : List Made → Type 0 where
+  None : Plain harts []
+  More : (m : Made) (made : List Made) → is_handover m.what ≡ false → m.hart < harts → Plain harts made → Plain harts (m ∷ made)
 
 abbrev pub harts_of : List Made → List ℕ
 harts_of made = map (λ (m : Made). m.hart) made
@@ -28,7 +27,7 @@ pub record AddedBy (setup : Setup) (u : Machine) (order : List ℕ) : Type 0 whe
   pub new : List Made
   pub events : (reach_from setup u order).events ≡ u.events ++ new
   pub leads : reach_from setup u (harts_of new) ≡ reach_from setup u order
-  pub plain : NoHandover new
+  pub plain : Plain setup.harts new
 
 added_none : (setup : Setup) (u : Machine) → AddedBy setup u []
 added_none setup u = record {
@@ -38,18 +37,18 @@ added_none setup u = record {
   plain = None;
 }
 
-added_more : (setup : Setup) (u : Machine) (h : ℕ) (order : List ℕ) → AddedBy setup (step setup u h) order → StepsTo u h (step setup u h) → AddedBy setup u (h ∷ order)
+added_more : (setup : Setup) (u : Machine) (h : ℕ) (order : List ℕ) → AddedBy setup (step setup u h) order → StepsTo setup u h (step setup u h) → AddedBy setup u (h ∷ order)
 added_more setup u h order added (Stays same) = record {
   new = added.new;
   events = ap (λ (m : Machine). m.events) (reach-cons setup u h order) ∙ added.events ∙ ap (λ (m : Machine). m.events ++ added.new) same;
   leads = ap (λ m. reach_from setup m (harts_of added.new)) (sym same) ∙ added.leads ∙ sym (reach-cons setup u h order);
   plain = added.plain;
 }
-added_more setup u h order added (Adds happened plain events same) = record {
+added_more setup u h order added (Adds happened plain below events same) = record {
   new = does h happened ∷ added.new;
   events = ap (λ (m : Machine). m.events) (reach-cons setup u h order) ∙ added.events ∙ ap (λ es. es ++ added.new) events ∙ append_assoc u.events (does h happened ∷ []) added.new;
   leads = reach-cons setup u h (harts_of added.new) ∙ added.leads ∙ sym (reach-cons setup u h order);
-  plain = More (does h happened) added.new plain added.plain;
+  plain = More (does h happened) added.new plain below added.plain;
 }
 
 pub added : (setup : Setup) (u : Machine) (order : List ℕ) → AddedBy setup u order
@@ -73,35 +72,35 @@ strip_handover : (number hart : ℕ) (from to : Engine) → strip (event number 
 unfolding strip
 strip_handover number hart from to = refl
 
-strip-handed : (events : List Event) (hart : ℕ) (from to : Engine) → strip (handed events hart from to) ≡ strip events
-strip-handed events hart from to = elim (is_same_engine from to) as (λ b. strip (if b then events else numbered events hart from (what.Handover to)) ≡ strip events) [
+strip-with_handover : (events : List Event) (hart : ℕ) (from to : Engine) → strip (with_handover events hart from to) ≡ strip events
+strip-with_handover events hart from to = elim (is_same_engine from to) as (λ b. strip (if b then events else with_number events hart from (what.Handover to)) ≡ strip events) [
   | true ↦ refl
   | false ↦ strip-append events (event (length events) hart from (what.Handover to) ∷ [])
       ∙ ap (λ es. strip events ++ es) (strip_handover (length events) hart from to)
       ∙ append-nil (strip events)
 ]
 
-strip-part : (plan : Plan) (p : Parted) (m : Made) → is_handover m.what ≡ false → strip (part plan p m).events ≡ strip p.events ++ m ∷ []
-strip-part plan p m plain =
-    let to = plan (class_of_what m.what) in
-    let from = slice_index_or p.engines m.hart (plan class.Fetch) in
-    let before = handed p.events m.hart from to in
+strip-split_event : (plan : Plan) (p : Splitting) (m : Made) → is_handover m.what ≡ false → strip (split_event plan p m).events ≡ strip p.events ++ m ∷ []
+strip-split_event plan p m plain =
+    let to = plan m.hart (class_of_what m.what) in
+    let from = holder_of plan p m.hart in
+    let before = with_handover p.events m.hart from to in
     strip-append before (event (length before) m.hart to m.what ∷ [])
     ∙ ap (λ es. strip before ++ es) (strip_event (length before) m.hart to m.what plain)
-    ∙ ap (λ es. es ++ m ∷ []) (strip-handed p.events m.hart from to)
+    ∙ ap (λ es. es ++ m ∷ []) (strip-with_handover p.events m.hart from to)
 
-strip-parts : (plan : Plan) (p : Parted) (made : List Made) → NoHandover made → strip (fold (part plan) p made).events ≡ strip p.events ++ made
-strip-parts plan p [] plain = sym (append-nil (strip p.events))
-strip-parts plan p (m ∷ made) (More _ _ plain others) =
-    strip-parts plan (part plan p m) made others
-    ∙ ap (λ es. es ++ made) (strip-part plan p m plain)
+strip-fold : (plan : Plan) (harts : ℕ) (p : Splitting) (made : List Made) → Plain harts made → strip (fold (split_event plan) p made).events ≡ strip p.events ++ made
+strip-fold plan harts p [] plain = sym (append-nil (strip p.events))
+strip-fold plan harts p (m ∷ made) (More _ _ plain below others) =
+    strip-fold plan harts (split_event plan p m) made others
+    ∙ ap (λ es. es ++ made) (strip-split_event plan p m plain)
     ∙ append_assoc (strip p.events) (m ∷ []) made
 
-pub strip-split : (plan : Plan) (harts : ℕ) (made : List Made) → NoHandover made → strip (split plan harts made) ≡ made
-unfolding strip parted
-strip-split plan harts made plain = strip-parts plan (unparted plan harts) made plain
+pub strip-split : (plan : Plan) (harts : ℕ) (made : List Made) → Plain harts made → strip (split plan harts made) ≡ made
+unfolding strip split_run
+strip-split plan harts made plain = strip-fold plan harts (first_split plan harts) made plain
 
-pub order_of-split : (plan : Plan) (harts : ℕ) (made : List Made) → NoHandover made → order_of (split plan harts made) ≡ harts_of made
+pub order_of-split : (plan : Plan) (harts : ℕ) (made : List Made) → Plain harts made → order_of (split plan harts made) ≡ harts_of made
 unfolding order_of
 order_of-split plan harts made plain = ap harts_of (strip-split plan harts made plain)
 
@@ -120,11 +119,11 @@ strip-split-unsplit setup plan order =
     ∙ strip-split plan setup.harts new.new new.plain
     ∙ sym new.events
 
--- A split run is numbered from 0, and obeys its plan.
+-- A split run is numbered from 0.
 
-numbers_of-numbered : (events : List Event) (hart : ℕ) (holder : Engine) (happened : What) → numbers_of (numbered events hart holder happened) ≡ numbers_of events ++ length events ∷ []
+numbers_of-with_number : (events : List Event) (hart : ℕ) (holder : Engine) (happened : What) → numbers_of (with_number events hart holder happened) ≡ numbers_of events ++ length events ∷ []
 unfolding numbers_of
-numbers_of-numbered events hart holder happened = map-append (λ (e : Event). e.number) events (event (length events) hart holder happened ∷ [])
+numbers_of-with_number events hart holder happened = map-append (λ (e : Event). e.number) events (event (length events) hart holder happened ∷ [])
 
 range_with_len-suc : (a n : ℕ) → range_with_len a (suc n) ≡ range_with_len a n ++ (a + n) ∷ []
 range_with_len-suc a zero = let e : a ≡ a + 0 = omega arith in ap (λ (k : ℕ). k ∷ []) e
@@ -142,34 +141,31 @@ range_with_len_push n =
 abbrev IsNumbered : List Event → Type 0
 IsNumbered events = numbers_of events ≡ range_with_len 0 (length events)
 
-IsNumbered-numbered : (events : List Event) (hart : ℕ) (holder : Engine) (happened : What) → IsNumbered events → IsNumbered (numbered events hart holder happened)
-IsNumbered-numbered events hart holder happened so_far =
-    numbers_of-numbered events hart holder happened
+IsNumbered-with_number : (events : List Event) (hart : ℕ) (holder : Engine) (happened : What) → IsNumbered events → IsNumbered (with_number events hart holder happened)
+IsNumbered-with_number events hart holder happened so_far =
+    numbers_of-with_number events hart holder happened
     ∙ ap (λ ns. ns ++ length events ∷ []) so_far
     ∙ sym (range_with_len_push (length events))
     ∙ ap (range_with_len 0) (sym (length_push events (event (length events) hart holder happened)))
 
-IsNumbered-handed : (events : List Event) (hart : ℕ) (from to : Engine) → IsNumbered events → IsNumbered (handed events hart from to)
-IsNumbered-handed events hart from to so_far = elim (is_same_engine from to) as (λ b. IsNumbered (if b then events else numbered events hart from (what.Handover to)))
-    [ true ↦ so_far | false ↦ IsNumbered-numbered events hart from (what.Handover to) so_far ]
+IsNumbered-with_handover : (events : List Event) (hart : ℕ) (from to : Engine) → IsNumbered events → IsNumbered (with_handover events hart from to)
+IsNumbered-with_handover events hart from to so_far = elim (is_same_engine from to) as (λ b. IsNumbered (if b then events else with_number events hart from (what.Handover to)))
+    [ true ↦ so_far | false ↦ IsNumbered-with_number events hart from (what.Handover to) so_far ]
 
-IsNumbered-parts : (plan : Plan) (p : Parted) (made : List Made) → IsNumbered p.events → IsNumbered (fold (part plan) p made).events
-IsNumbered-parts plan p [] so_far = so_far
-IsNumbered-parts plan p (m ∷ made) so_far =
-    let to = plan (class_of_what m.what) in
-    IsNumbered-parts plan (part plan p m) made
-    (IsNumbered-numbered (handed p.events m.hart (slice_index_or p.engines m.hart (plan class.Fetch)) to) m.hart to m.what
-    (IsNumbered-handed p.events m.hart (slice_index_or p.engines m.hart (plan class.Fetch)) to so_far))
+IsNumbered-fold : (plan : Plan) (p : Splitting) (made : List Made) → IsNumbered p.events → IsNumbered (fold (split_event plan) p made).events
+IsNumbered-fold plan p [] so_far = so_far
+IsNumbered-fold plan p (m ∷ made) so_far =
+    let to = plan m.hart (class_of_what m.what) in
+    IsNumbered-fold plan (split_event plan p m) made
+    (IsNumbered-with_number (with_handover p.events m.hart (holder_of plan p m.hart) to) m.hart to m.what
+    (IsNumbered-with_handover p.events m.hart (holder_of plan p m.hart) to so_far))
 
 IsNumbered-split : (plan : Plan) (harts : ℕ) (made : List Made) → IsNumbered (split plan harts made)
-unfolding parted numbers_of
-IsNumbered-split plan harts made = IsNumbered-parts plan (unparted plan harts) made refl
+unfolding split_run numbers_of
+IsNumbered-split plan harts made = IsNumbered-fold plan (first_split plan harts) made refl
 
 pub split_legal : (setup : Setup) (plan : Plan) (order : List ℕ) → IsLegal setup (split plan setup.harts (unsplit setup order))
 split_legal setup plan order = record {
   numbers = IsNumbered-split plan setup.harts (unsplit setup order);
   events = strip-split-unsplit setup plan order ∙ sym (ap (λ (u : Machine). u.events) (reach-order_of setup plan order));
 }
-
-pub split_obeys : (setup : Setup) (plan : Plan) (order : List ℕ) → Obeys plan setup.harts (split plan setup.harts (unsplit setup order))
-split_obeys setup plan order = λ hart. ap (λ made. moves_of hart (split plan setup.harts made)) (sym (strip-split-unsplit setup plan order))

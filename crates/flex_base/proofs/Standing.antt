@@ -9,12 +9,14 @@ use Rattle.flex_base.specs.Setup.{Setup}
 use Rattle.flex_base.specs.State.{State, reg, start}
 use Rattle.flex_base.specs.Place.{in_ram, place_of}
 use Rattle.flex_base.specs.Word.{wrap, is_multiple}
+use Rattle.flex_base.specs.Causes.{instruction_access_fault, load_address_misaligned, load_access_fault, store_address_misaligned, store_access_fault}
 use Rattle.flex_base.specs.Decoding.{decoded}
-use Rattle.flex_base.specs.FlatMemory.{Done, flat, reply_with, is_ram_access, is_reserved, granule}
-use Rattle.flex_base.specs.Story.{Want, Asks, Ends, IsOver, IsLater, Story, Says, Closes, StaysOver, ComesLater, pulses, fetches, works, jumps, branches, is_taken, traps, at_place, reaches, reaches_ram, is_tick, want}
-use Rattle.flex_base.specs.Unsplit.{Machine, Half, Made, half_of, half_at, story_of, want_of, reply_to, begin, make, noted, does, step, reach, reach_from, is_retire, is_spent}
+use Rattle.flex_base.specs.FlatMemory.{Done, flat, reply_with, is_ram_access, is_reserved, reservation_set}
+use Rattle.flex_base.specs.Story.{Want, Asks, Ends, IsOver, IsLater, Story, Says, Closes, StaysOver, ComesLater, pulses, after_pulse, fetches, works, jumps, branches, is_taken, traps, at_place, reaches, reaches_ram, is_tick, want}
+use Rattle.flex_base.specs.Unsplit.{Machine, Instruction, Made, instruction_from, instruction_at, story_of, want_of, reply_to, begin, make, with_access, does, step, reach, reach_from}
+use Rattle.flex_base.specs.DevicesSoFar.{is_retire, is_spent}
 use Rattle.flex_base.specs.Rounds.{most_events}
-use Rattle.flex_base.specs.Going.{count_of}
+use Rattle.flex_base.specs.EndOfRun.{count_of}
 use Rattle.flex_base.specs.declared.access.Access.{Access}
 use Rattle.flex_base.specs.declared.access.Access.TheVariants as acc
 use Rattle.flex_base.specs.declared.access.Reply.{Reply}
@@ -24,16 +26,21 @@ use Rattle.flex_base.specs.declared.operation.Op.{Op}
 use Rattle.flex_base.specs.declared.operation.Op.TheVariants as op
 use Rattle.flex_base.specs.declared.settings.Place.{Place}
 use Rattle.flex_base.specs.declared.settings.Place.TheVariants as place
-use Rattle.flex_base.proofs.Machines.{half_at-begin, Stays, Adds, step_steps, reach-cons, reach-none, step_is, half_after_access, story_after_access, half_after_end, half_at-other, length-step, place_in}
-use Rattle.flex_base.proofs.Stories.{retires, goes_on, after_pulse, story_spent, story_unspent}
+use Rattle.flex_base.proofs.Machines.{instruction_at-begin, Stays, Adds, step_steps, reach-cons, reach-none, step_is, instruction_after_access, story_after_access, instruction_after_end, instruction_at-other, length-step, place_in}
+use Rattle.flex_base.proofs.Stories.{retires, goes_on, story_spent, story_unspent}
 
 -- An instruction makes few events, and leaves its hart over by a reply with the stop alone.
 
--- from here on come at most so many events, the last of which counts one more end than these. No replies lead to the hart's
--- being over, as long as none tells the stop
+-- an access that transmits nothing to the console
+abbrev pub IsSilent : Access → Type 0
+IsSilent (acc.DevWrite address width value) = ⊥
+IsSilent other = Unit {0}
+
+-- from here on come at most so many events, all silent, the last of which counts one more end than these. No replies lead to
+-- the hart's being over, as long as none tells the stop
 abbrev pub Leads : ℕ → ℕ → Story → Type 0
 Leads zero ends (Says access next) = ⊥
-Leads (suc n) ends (Says access next) = (reply : Reply) → reply.stop ≡ false → Leads n ends (next reply)
+Leads (suc n) ends (Says access next) = IsSilent access × ((reply : Reply) → reply.stop ≡ false → Leads n ends (next reply))
 Leads zero ends (Closes part after) = ⊥
 Leads (suc n) ends (Closes part after) = after.ends ≡ ends + 1
 Leads n ends StaysOver = ⊥
@@ -71,20 +78,20 @@ works_leads setup a n (op.AluReg does rd rs1 rs2) = refl
 works_leads setup a n (op.Muldiv does rd rs1 rs2) = refl
 works_leads setup a n (op.Jal rd imm) = jumps_leads a (suc n) _ rd
 works_leads setup a n (op.Jalr rd rs1 imm) = jumps_leads a (suc n) _ rd
-works_leads setup a n (op.Branch compares rs1 rs2 imm) = branches_leads a (suc n) (is_taken compares (reg a rs1) (reg a rs2)) (wrap (a.pc + imm))
-works_leads setup a n (op.Load width signed rd rs1 imm) = reaches_leads setup a (suc (suc n)) _ width 4 5 _ (λ reply going. refl)
-works_leads setup a n (op.Store width rs1 rs2 imm) = reaches_leads setup a (suc (suc n)) _ width 6 7 _ (λ reply going. refl)
-works_leads setup a n (op.Lr width rd rs1 aq rl) = reaches_ram_leads setup a (suc (suc n)) _ width 4 5 _ (λ reply going. refl)
+works_leads setup a n (op.Branch compares rs1 rs2 imm) = branches_leads a (suc n) (is_taken compares (reg a.x rs1) (reg a.x rs2)) (wrap (a.pc + imm))
+works_leads setup a n (op.Load width signed rd rs1 imm) = reaches_leads setup a (suc (suc n)) _ width load_address_misaligned load_access_fault _ (tt, λ reply going. refl)
+works_leads setup a n (op.Store width rs1 rs2 imm) = reaches_leads setup a (suc (suc n)) _ width store_address_misaligned store_access_fault _ (tt, λ reply going. refl)
+works_leads setup a n (op.Lr width rd rs1 aq rl) = reaches_ram_leads setup a (suc (suc n)) _ width load_address_misaligned load_access_fault _ (tt, λ reply going. refl)
 works_leads setup a n (op.Sc width rd rs1 rs2 aq rl) =
-    reaches_ram_leads setup a (suc (suc n)) _ width 6 7 _ (either_leads (suc (suc n)) a.ends (is_reserved a.reservation (granule (reg a rs1))) _ _ (λ reply going. refl) refl)
-works_leads setup a n (op.Amo does width rd rs1 rs2 aq rl) = reaches_ram_leads setup a (suc (suc n)) _ width 6 7 _ (λ reply going. refl)
+    reaches_ram_leads setup a (suc (suc n)) _ width store_address_misaligned store_access_fault _ (either_leads (suc (suc n)) a.ends (is_reserved a.reservation (reservation_set (reg a.x rs1))) _ _ (tt, λ reply going. refl) refl)
+works_leads setup a n (op.Amo does width rd rs1 rs2 aq rl) = reaches_ram_leads setup a (suc (suc n)) _ width store_address_misaligned store_access_fault _ (tt, λ reply going. refl)
 works_leads setup a n (op.Fence free) = refl
 works_leads setup a n (op.FenceI free) = refl
 works_leads setup a n other = tt
 
 fetches_leads : (setup : Setup) (a : State) (n : ℕ) → Leads (suc (suc (suc n))) a.ends (fetches setup a)
 fetches_leads setup a n =
-    either_leads (suc (suc (suc n))) a.ends (in_ram setup.ram a.pc 4) (goes_on setup a) (traps a 1 a.pc) (λ reply going. works_leads setup a n (decoded reply.value)) tt
+    either_leads (suc (suc (suc n))) a.ends (in_ram setup.ram a.pc 4) (goes_on setup a) (traps a instruction_access_fault a.pc) (tt, λ reply going. works_leads setup a n (decoded reply.value)) tt
 
 unstopped_leads : (n ends : ℕ) (stop : Bool) (s : Story) → stop ≡ false → Leads n ends s → Leads n ends (if stop then StaysOver else s)
 unstopped_leads n ends true s going leads = absurd cc
@@ -92,7 +99,7 @@ unstopped_leads n ends false s going leads = leads
 
 pulses_leads : (setup : Setup) (a : State) → Leads 10 a.ends (pulses setup a)
 pulses_leads setup a = either_leads 10 a.ends a.due (Says (acc.Pulse (is_tick a)) (after_pulse setup a)) (fetches setup a)
-    (λ reply going. unstopped_leads 9 a.ends reply.stop _ going (fetches_leads setup (record a { lines = reply.lines }) 6))
+    (tt, λ reply going. unstopped_leads 9 a.ends reply.stop _ going (fetches_leads setup (record a { lines = reply.lines }) 6))
     (fetches_leads setup a 7)
 
 -- No reply of memory or of the devices tells the stop.
@@ -127,47 +134,47 @@ count_other made h k happened other =
 step_count_other : (setup : Setup) (u : Machine) (h k : ℕ) → h ≢ k → count_of h (step setup u k).events ≡ count_of h u.events
 step_count_other setup u h k other = elim (step_steps setup u k) [
   | Stays e ↦ ap (λ (m : Machine). count_of h m.events) e
-  | Adds happened plain events same ↦ ap (count_of h) events ∙ count_other u.events h k happened other
+  | Adds happened plain below events same ↦ ap (count_of h) events ∙ count_other u.events h k happened other
 ]
 
 -- How a hart stands: it works on an instruction, or is about to retire, or has retired. So one that is over has retired.
 
 pub data Stands (setup : Setup) (u : Machine) (h : ℕ) : Type 0 where
-  Works : (left : ℕ) → (half_at u h).state.ends < setup.budget → Leads left (half_at u h).state.ends (story_of setup u h)
-      → count_of h u.events + left ≤ 10 * (half_at u h).state.ends + 10 → Stands setup u h
-  Retires : story_of setup u h ≡ retires → (half_at u h).state.ends ≤ setup.budget → count_of h u.events ≤ 10 * setup.budget → Stands setup u h
+  Works : (left : ℕ) → (instruction_at u h).state.ends < setup.budget → Leads left (instruction_at u h).state.ends (story_of setup u h)
+      → count_of h u.events + left ≤ 10 * (instruction_at u h).state.ends + 10 → Stands setup u h
+  Retires : story_of setup u h ≡ retires → (instruction_at u h).state.ends ≤ setup.budget → count_of h u.events ≤ 10 * setup.budget → Stands setup u h
   Retired : story_of setup u h ≡ StaysOver → is_spent u.devices h ≡ true → count_of h u.events ≤ most_events setup → Stands setup u h
 
 -- a hart works where it stands in this story, after so many ends
-works_in : (setup : Setup) (u : Machine) (h left ends : ℕ) (s : Story) → (half_at u h).state.ends ≡ ends → story_of setup u h ≡ s
+works_in : (setup : Setup) (u : Machine) (h left ends : ℕ) (s : Story) → (instruction_at u h).state.ends ≡ ends → story_of setup u h ≡ s
     → ends < setup.budget → Leads left ends s → count_of h u.events + left ≤ 10 * ends + 10 → Stands setup u h
 works_in setup u h left ends s same is unspent leads few =
     let After : ℕ → Type 0 = λ n. Leads left n s in
-    let In : Story → Type 0 = λ t. Leads left (half_at u h).state.ends t in
+    let In : Story → Type 0 = λ t. Leads left (instruction_at u h).state.ends t in
     Works left (omega (arith, same, unspent)) (subst In (sym is) (subst After (sym same) leads)) (omega (arith, same, few))
 
 -- at the beginning of an instruction
-stands_begun : (setup : Setup) (u : Machine) (h : ℕ) (a : State) → half_at u h ≡ half_of a → a.ends ≤ setup.budget → count_of h u.events ≤ 10 * a.ends → Stands setup u h
+stands_begun : (setup : Setup) (u : Machine) (h : ℕ) (a : State) → instruction_at u h ≡ instruction_from a → a.ends ≤ setup.budget → count_of h u.events ≤ 10 * a.ends → Stands setup u h
 stands_begun setup u h a begins within few = elim (cases_eq a.ends setup.budget) [
   | inl spent ↦
-      let same = ap (λ (half : Half). half.state.ends) begins in
+      let same = ap (λ (i : Instruction). i.state.ends) begins in
       Retires (ap (place_in setup) begins ∙ story_spent setup a spent) (omega (arith, same, within)) (omega (arith, few, spent))
-  | inr unspent ↦ works_in setup u h 10 a.ends (pulses setup a) (ap (λ (half : Half). half.state.ends) begins) (ap (place_in setup) begins ∙ story_unspent setup a unspent)
+  | inr unspent ↦ works_in setup u h 10 a.ends (pulses setup a) (ap (λ (i : Instruction). i.state.ends) begins) (ap (place_in setup) begins ∙ story_unspent setup a unspent)
       (omega (arith, within, unspent)) (pulses_leads setup a) (omega (arith, few))
 ]
 
 -- A step keeps how each hart stands.
 
-retired_spends : (made : List Done) (h : ℕ) (reply : Reply) → is_spent (noted made h acc.Retire reply) h ≡ true
+retired_spends : (made : List Done) (h : ℕ) (reply : Reply) → is_spent (with_access made h acc.Retire reply) h ≡ true
 retired_spends made h reply =
     list_any-append (λ (d : Done). (d.hart == h) && is_retire d.access) made _
     ∙ or_right _ _ (ap (λ b. (b && true) || false) (eq-eqb h h refl))
 
-stays_spent : (made : List Done) (h by : ℕ) (access : Access) (reply : Reply) → is_spent made h ≡ true → is_spent (noted made by access reply) h ≡ true
+stays_spent : (made : List Done) (h by : ℕ) (access : Access) (reply : Reply) → is_spent made h ≡ true → is_spent (with_access made by access reply) h ≡ true
 stays_spent made h by access reply spent = list_any-append (λ (d : Done). (d.hart == h) && is_retire d.access) made _ ∙ or_left _ _ spent
 
 make_stays_spent : (setup : Setup) (u : Machine) (h k : ℕ) (w : Want) → is_spent u.devices h ≡ true → is_spent (make setup u k w).devices h ≡ true
-make_stays_spent setup u h k (Asks access) spent = elim (is_ram_access access) as (λ b. is_spent (if b then u.devices else noted u.devices k access (reply_to setup u k access)) h ≡ true)
+make_stays_spent setup u h k (Asks access) spent = elim (is_ram_access access) as (λ b. is_spent (if b then u.devices else with_access u.devices k access (reply_to setup u k access)) h ≡ true)
     [ true ↦ spent | false ↦ stays_spent u.devices h k access (reply_to setup u k access) spent ]
 make_stays_spent setup u h k (Ends part after) spent = spent
 make_stays_spent setup u h k IsOver spent = spent
@@ -180,39 +187,39 @@ step_stays_spent setup u h k spent = elim (nat_lt k setup.harts) as (λ b. is_sp
 -- the hart stays where it was in its story while another one steps
 stands_still : (setup : Setup) (u : Machine) (h k : ℕ) → h ≢ k → Stands setup u h → Stands setup (step setup u k) h
 stands_still setup u h k other stands =
-    let half = half_at-other setup u k h other in
+    let kept = instruction_at-other setup u k h other in
     let same = step_count_other setup u h k other in
     elim stands [
       | Works left unspent leads few ↦
-          works_in setup (step setup u k) h left (half_at u h).state.ends (story_of setup u h) (ap (λ (x : Half). x.state.ends) half) (ap (place_in setup) half) unspent leads (omega (arith, same, few))
+          works_in setup (step setup u k) h left (instruction_at u h).state.ends (story_of setup u h) (ap (λ (x : Instruction). x.state.ends) kept) (ap (place_in setup) kept) unspent leads (omega (arith, same, few))
       | Retires e within few ↦
-          let ends = ap (λ (x : Half). x.state.ends) half in
-          Retires (ap (place_in setup) half ∙ e) (omega (arith, ends, within)) (omega (arith, same, few))
-      | Retired e spent few ↦ Retired (ap (place_in setup) half ∙ e) (step_stays_spent setup u h k spent) (omega (arith, same, few))
+          let ends = ap (λ (x : Instruction). x.state.ends) kept in
+          Retires (ap (place_in setup) kept ∙ e) (omega (arith, ends, within)) (omega (arith, same, few))
+      | Retired e spent few ↦ Retired (ap (place_in setup) kept ∙ e) (step_stays_spent setup u h k spent) (omega (arith, same, few))
     ]
 
 -- the hart's own step while it works
 works_on : (setup : Setup) (u : Machine) (h left : ℕ) (s : Story) → h < setup.harts → h < length u.harts → story_of setup u h ≡ s
-    → (half_at u h).state.ends < setup.budget → Leads left (half_at u h).state.ends s → count_of h u.events + left ≤ 10 * (half_at u h).state.ends + 10 → Stands setup (step setup u h) h
+    → (instruction_at u h).state.ends < setup.budget → Leads left (instruction_at u h).state.ends s → count_of h u.events + left ≤ 10 * (instruction_at u h).state.ends + 10 → Stands setup (step setup u h) h
 works_on setup u h zero (Says access next) below within says unspent leads few = absurd leads
 works_on setup u h (suc left) (Says access next) below within says unspent leads few =
     let asks = ap want says in
     let reply = reply_to setup u h access in
     let one = ap (λ (m : Machine). count_of h m.events) (step_is setup u h (Asks access) below asks) ∙ count_own u.events h (what.Acc access reply) in
-    works_in setup (step setup u h) h left (half_at u h).state.ends (next reply)
-    (ap (λ (half : Half). half.state.ends) (half_after_access setup u h access below within asks))
+    works_in setup (step setup u h) h left (instruction_at u h).state.ends (next reply)
+    (ap (λ (i : Instruction). i.state.ends) (instruction_after_access setup u h access below within asks))
     (story_after_access setup u h access next below within says)
-    unspent (leads reply (unstopped setup u h access)) (omega (arith, one, few))
+    unspent (leads.1 reply (unstopped setup u h access)) (omega (arith, one, few))
 works_on setup u h zero (Closes part after) below within closes unspent leads few = absurd leads
 works_on setup u h (suc left) (Closes part after) below within closes unspent leads few =
     let ends = ap want closes in
     let one = ap (λ (m : Machine). count_of h m.events) (step_is setup u h (Ends part after) below ends) ∙ count_own u.events h (what.End part) in
-    stands_begun setup (step setup u h) h after (half_after_end setup u h part after below within ends) (omega (arith, leads, unspent)) (omega (arith, one, few, leads))
+    stands_begun setup (step setup u h) h after (instruction_after_end setup u h part after below within ends) (omega (arith, leads, unspent)) (omega (arith, one, few, leads))
 works_on setup u h left StaysOver below within over unspent leads few = absurd leads
 works_on setup u h left ComesLater below within later unspent leads few =
     let still : u ≡ step setup u h = sym (step_is setup u h IsLater below (ap want later)) in
     let At : Machine → Type 0 = λ m. Stands setup m h in
-    subst At still (works_in setup u h left (half_at u h).state.ends ComesLater refl later unspent tt few)
+    subst At still (works_in setup u h left (instruction_at u h).state.ends ComesLater refl later unspent tt few)
 
 -- the hart's own step, however it stands
 pub steps_on : (setup : Setup) (u : Machine) (h : ℕ) → h < setup.harts → h < length u.harts → Stands setup u h → Stands setup (step setup u h) h
@@ -220,10 +227,10 @@ steps_on setup u h below within (Works left unspent leads few) = works_on setup 
 steps_on setup u h below within (Retires e spent few) =
     let asks = ap want e in
     let reply = reply_to setup u h acc.Retire in
-    let stepped = step_is setup u h (Asks acc.Retire) below asks in
-    let one = ap (λ (m : Machine). count_of h m.events) stepped ∙ count_own u.events h (what.Acc acc.Retire reply) in
+    let made = step_is setup u h (Asks acc.Retire) below asks in
+    let one = ap (λ (m : Machine). count_of h m.events) made ∙ count_own u.events h (what.Acc acc.Retire reply) in
     Retired (story_after_access setup u h acc.Retire (λ r. StaysOver) below within e)
-    (ap (λ (m : Machine). is_spent m.devices h) stepped ∙ retired_spends u.devices h reply)
+    (ap (λ (m : Machine). is_spent m.devices h) made ∙ retired_spends u.devices h reply)
     (omega (arith, one, few))
 steps_on setup u h below within (Retired e spent few) =
     let still : u ≡ step setup u h = sym (step_is setup u h IsOver below (ap want e)) in
@@ -236,7 +243,7 @@ pub record AllStand (setup : Setup) (u : Machine) : Type 0 where
   pub harts : length u.harts ≡ setup.harts
   pub each : (h : ℕ) → h < setup.harts → Stands setup u h
 
-all_step : (setup : Setup) (u : Machine) (k : ℕ) → AllStand setup u → AllStand setup (step setup u k)
+pub all_step : (setup : Setup) (u : Machine) (k : ℕ) → AllStand setup u → AllStand setup (step setup u k)
 all_step setup u k all = record {
   harts = length-step setup u k ∙ all.harts;
   each = λ h below. elim (cases_eq h k) [
@@ -247,10 +254,10 @@ all_step setup u k all = record {
   ];
 }
 
-all_begin : (setup : Setup) → AllStand setup (begin setup)
+pub all_begin : (setup : Setup) → AllStand setup (begin setup)
 all_begin setup = record {
-  harts = length-map-range_with_len (λ k. half_of (start k setup.image.entry)) 0 setup.harts;
-  each = λ h below. stands_begun setup (begin setup) h (start h setup.image.entry) (half_at-begin setup h below) (omega arith) (omega arith);
+  harts = length-map-range_with_len (λ k. instruction_from (start k setup.image.entry)) 0 setup.harts;
+  each = λ h below. stands_begun setup (begin setup) h (start h setup.image.entry) (instruction_at-begin setup h below) (omega arith) (omega arith);
 }
 
 pub all_from : (setup : Setup) (u : Machine) (order : List ℕ) → AllStand setup u → AllStand setup (reach_from setup u order)

@@ -7,7 +7,8 @@ use Rattle.std.specs.List.{list_all, range_with_len}
 use Rattle.flex_base.specs.Setup.{Setup}
 use Rattle.flex_base.specs.State.{State}
 use Rattle.flex_base.specs.Story.{Want, Asks, Ends, IsOver, IsLater, Story, Says, Closes, StaysOver, ComesLater, want}
-use Rattle.flex_base.specs.Unsplit.{Machine, half_at, story_of, want_of, reply_to, step, reach_from, hart_numbers, is_spent, stop_of, is_over, has_ended}
+use Rattle.flex_base.specs.Unsplit.{Machine, instruction_at, story_of, want_of, reply_to, step, reach_from, hart_numbers, is_over, has_ended}
+use Rattle.flex_base.specs.DevicesSoFar.{is_spent, stop_of}
 use Rattle.flex_base.specs.Rounds.{turn, turn_of, turns}
 use Rattle.flex_base.specs.Built.{is_built, unbuilt_at, first_of, first_unbuilt}
 use Rattle.flex_base.specs.declared.access.Access.{Access}
@@ -71,18 +72,18 @@ turn_of-begins setup u h busy = turn_begins setup u h (story_of setup u h) busy
 -- Orders and what isn't built.
 
 -- whether a hart's next event is built
-unbuilt_within : (setup : Setup) (u : Machine) (h : ℕ) → h < setup.harts → unbuilt_at setup u h ≡ (if is_built (want_of setup u h) then None else Some (half_at u h).state.pc)
+unbuilt_within : (setup : Setup) (u : Machine) (h : ℕ) → h < setup.harts → unbuilt_at setup u h ≡ (if is_built (want_of setup u h) then None else Some (instruction_at u h).state.pc)
 unbuilt_within setup u h below = grind (arith, nat_tests)
 
 pub built_here : (setup : Setup) (u : Machine) (h : ℕ) → h < setup.harts → is_built (want_of setup u h) ≡ true → unbuilt_at setup u h ≡ None
-built_here setup u h below built = unbuilt_within setup u h below ∙ ap (λ b. if b then None else Some (half_at u h).state.pc) built
+built_here setup u h below built = unbuilt_within setup u h below ∙ ap (λ b. if b then None else Some (instruction_at u h).state.pc) built
 
-pub unbuilt_here : (setup : Setup) (u : Machine) (h : ℕ) → h < setup.harts → is_built (want_of setup u h) ≡ false → unbuilt_at setup u h ≡ Some (half_at u h).state.pc
-unbuilt_here setup u h below unbuilt = unbuilt_within setup u h below ∙ ap (λ b. if b then None else Some (half_at u h).state.pc) unbuilt
+pub unbuilt_here : (setup : Setup) (u : Machine) (h : ℕ) → h < setup.harts → is_built (want_of setup u h) ≡ false → unbuilt_at setup u h ≡ Some (instruction_at u h).state.pc
+unbuilt_here setup u h below unbuilt = unbuilt_within setup u h below ∙ ap (λ b. if b then None else Some (instruction_at u h).state.pc) unbuilt
 
 -- a name without a hart makes no event, and so none that isn't built
 pub built_beyond : (setup : Setup) (u : Machine) (h : ℕ) → nat_lt h setup.harts ≡ false → unbuilt_at setup u h ≡ None
-built_beyond setup u h beyond = ap (λ b. if b then (if is_built (want_of setup u h) then None else Some (half_at u h).state.pc) else None) beyond
+built_beyond setup u h beyond = ap (λ b. if b then (if is_built (want_of setup u h) then None else Some (instruction_at u h).state.pc) else None) beyond
 
 -- a hart whose next event isn't built isn't over
 pub unbuilt_busy : (w : Want) → is_built w ≡ false → is_over w ≡ false
@@ -138,8 +139,8 @@ ended_all setup u spent over =
 -- one in which some hart isn't over hasn't
 pub ended_not : (setup : Setup) (u : Machine) (h : ℕ) → h < setup.harts → is_over (want_of setup u h) ≡ false → has_ended setup u ≡ false
 ended_not setup u h below busy =
-    ap (λ b. is_some (stop_of setup u) && b) (some_number (λ k. is_over (want_of setup u k)) 0 setup.harts h (omega arith) (omega (arith, below)) busy)
-    ∙ and_none (is_some (stop_of setup u))
+    ap (λ b. is_some (stop_of setup.harts u.devices) && b) (some_number (λ k. is_over (want_of setup u k)) 0 setup.harts h (omega arith) (omega (arith, below)) busy)
+    ∙ and_none (is_some (stop_of setup.harts u.devices))
 
 pub over_by : (w : Want) → is_over w ≡ true → w ≡ IsOver
 over_by (Asks access) e = absurd cc
@@ -169,7 +170,7 @@ stop_by true c e = refl
 stop_by false c e = absurd cc
 
 -- a run that has ended has spent all budgets
-pub stop_ended : (setup : Setup) (u : Machine) → has_ended setup u ≡ true → stop_of setup u ≡ Some stop.Budget
+pub stop_ended : (setup : Setup) (u : Machine) → has_ended setup u ≡ true → stop_of setup.harts u.devices ≡ Some stop.Budget
 stop_ended setup u ended = stop_by (list_all (is_spent u.devices) (hart_numbers setup)) (list_all (λ h. is_over (want_of setup u h)) (hart_numbers setup)) ended
 
 -- a turn more, also where the run has ended, since then it has no event

@@ -1,5 +1,6 @@
 -- What the outside holds and is given.
 use Rattle.std.specs.Prelude.{◌≡◌, ◌≢◌, ℕ, ◌-◌, ◌^◌, ◌<◌, ◌≤◌, ◌⊎◌, List, [], ◌++◌, length, take, Option, None, Some, unwrap_or, Result, Ok, Err}
+use Rattle.std.specs.Io.KnownBytes.{Appends}
 use Rattle.flex_base.specs.declared.outer.TakeFault.{TakeFault}
 use Rattle.flex_base.specs.declared.outer.TakeFault.TheVariants as fault
 
@@ -27,9 +28,9 @@ ChangesFile (Some old) (Some new) name Change = Change (old name) (new name) × 
 abbrev pub Appended : List ℕ → Option (List ℕ) → Option (List ℕ) → Type 0
 Appended bytes old new = new ≡ Some (unwrap_or old [] ++ bytes)
 
--- the file gained the first of these bytes, maybe none
+-- the file is as it was, or gained the first of these bytes
 abbrev pub AppendedPart : List ℕ → Option (List ℕ) → Option (List ℕ) → Type 0
-AppendedPart bytes old new = (n : ℕ) × (unwrap_or new [] ≡ unwrap_or old [] ++ take n bytes)
+AppendedPart bytes old new = (new ≡ old) ⊎ ((n : ℕ) × (new ≡ Some (unwrap_or old [] ++ take n bytes)))
 
 -- the file is empty
 abbrev pub Started : Option (List ℕ) → Option (List ℕ) → Type 0
@@ -60,3 +61,7 @@ Said bytes old new = new ≡ old ++ bytes
 -- the first of these bytes were said, maybe none
 abbrev pub SaidPart : List ℕ → List ℕ → List ℕ → Type 0
 SaidPart bytes old new = (n : ℕ) × (new ≡ old ++ take n bytes)
+
+-- a writer's bytes, where they are known, grow by the first of these, maybe none
+abbrev pub AppendsPart : Option (List ℕ) → Option (List ℕ) → List ℕ → Type 0
+AppendsPart old new bytes = (n : ℕ) × Appends old new (take n bytes)

@@ -55,19 +55,19 @@ value_at f a zero = 0
 value_at f a (suc n) = f a + 256 * value_at f (a + 1) n
 
 -- the aligned 8 bytes that contain the address
-abbrev pub granule : ℕ → ℕ
-granule address = address - address % 8
+abbrev pub reservation_set : ℕ → ℕ
+reservation_set address = address - address % 8
 
 -- a reservation after a write at the address by some hart: another hart's write into it ends it. A write is aligned and
 -- at most 8 bytes wide, so it lies within one granule
 abbrev pub broken : ℕ → ℕ → ℕ → Option ℕ → Option ℕ
 broken hart by address None = None
-broken hart by address (Some g) = if (granule address == g) && not (hart == by) then None else Some g
+broken hart by address (Some g) = if (reservation_set address == g) && not (hart == by) then None else Some g
 
 -- the hart's reservation after an access: its own last load-reserved, unless its own store-conditional
 -- or another hart's write in the same 8 bytes came after it (Volume I, "Load-Reserved/Store-Conditional Instructions")
 abbrev pub reserved_after : ℕ → Option ℕ → ℕ → Access → Reply → Option ℕ
-reserved_after hart old by (acc.Lr address width) reply = if hart == by then Some (granule address) else old
+reserved_after hart old by (acc.Lr address width) reply = if hart == by then Some (reservation_set address) else old
 reserved_after hart old by (acc.Sc address width value) reply = if hart == by then None else (if reply.value == 0 then broken hart by address old else old)
 reserved_after hart old by (acc.Write address width value) reply = broken hart by address old
 reserved_after hart old by (acc.Amo op address width value) reply = broken hart by address old
@@ -100,5 +100,5 @@ flat image made hart (acc.Pte address) = read_at image made address 8
 flat image made hart (acc.Read address width) = read_at image made address width
 flat image made hart (acc.Lr address width) = read_at image made address width
 flat image made hart (acc.Amo op address width value) = read_at image made address width
-flat image made hart (acc.Sc address width value) = reply_with (if stands made hart (granule address) then 0 else 1)
+flat image made hart (acc.Sc address width value) = reply_with (if stands made hart (reservation_set address) then 0 else 1)
 flat image made hart other = reply_with 0

@@ -4,16 +4,11 @@ use Rattle.std.specs.List.{filter_map, range_with_len}
 use Rattle.std.specs.Prelude.{Option, None, Some}
 use Rattle.flex_base.specs.Setup.{Setup}
 use Rattle.flex_base.specs.Unsplit.{Made, does, unsplit}
-use Rattle.flex_base.specs.Split.{Plan, split}
+use Rattle.flex_base.specs.Split.{is_handover}
 use Rattle.flex_base.specs.declared.access.Access.TheVariants as acc
-use Rattle.flex_base.specs.declared.engine.Engine.{Engine}
 use Rattle.flex_base.specs.declared.event.Event.{Event}
 use Rattle.flex_base.specs.declared.event.What.{What}
 use Rattle.flex_base.specs.declared.event.What.TheVariants as what
-
-abbrev pub is_handover : What → Bool
-is_handover (what.Handover to) = true
-is_handover other = false
 
 -- the journal without handovers, engines and numbers
 unfoldable pub strip : List Event → List Made
@@ -30,15 +25,6 @@ numbers_of journal = map (λ (e : Event). e.number) journal
 pub record IsLegal (setup : Setup) (journal : List Event) : Type 0 where
   pub numbers : numbers_of journal ≡ range_with_len 0 (length journal)
   pub events : strip journal ≡ unsplit setup (order_of journal)
-
--- the engines and events of one hart, handovers among them, without their numbers
-unfoldable pub moves_of : ℕ → List Event → List (Engine × What)
-moves_of hart journal = map (λ (e : Event). (e.engine, e.what)) (filter (λ (e : Event). e.hart.0 == hart) journal)
-
--- each hart's events stand in the engines that the plan names, with exactly one handover where the engine changes,
--- none where it stays and none at the end; where between the two events a handover stands doesn't matter
-abbrev pub Obeys : Plan → ℕ → List Event → Type 0
-Obeys plan harts journal = (hart : ℕ) → moves_of hart journal ≡ moves_of hart (split plan harts (strip journal))
 
 -- the byte that an event transmits
 abbrev pub byte_of : What → Option ℕ

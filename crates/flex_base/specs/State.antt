@@ -20,8 +20,8 @@ pub record State : Type 0 where
   pub due : Bool
 
 -- the value of a register; x0 is 0
-abbrev pub reg : State → ℕ → ℕ
-reg a r = if r == 0 then 0 else slice_index a.x r
+abbrev pub reg : List ℕ → ℕ → ℕ
+reg x r = if r == 0 then 0 else slice_index x r
 
 -- the registers after a write; a write of x0 changes nothing
 abbrev pub set_reg : List ℕ → ℕ → ℕ → List ℕ
@@ -39,8 +39,12 @@ start hart entry = record {
   due = false;
 }
 
+-- a reservation is 8 aligned bytes of RAM
+abbrev pub IsReservation : ℕ → Option ℕ → Type 0
+IsReservation ram reservation = MatchOption reservation (Unit {0}) (λ r. (is_multiple r 8 ≡ true) × (in_ram ram r 8 ≡ true))
+
 -- a state that a hart can be in: the pc is aligned, the budget isn't overspent, and a reservation is 8 aligned bytes of RAM
 pub record IsFit (ram budget : ℕ) (a : State) : Type 0 where
   pub aligned : is_multiple a.pc 4 ≡ true
   pub within : a.ends ≤ budget
-  pub reserved : MatchOption a.reservation (Unit {0}) (λ r. (is_multiple r 8 ≡ true) × (in_ram ram r 8 ≡ true))
+  pub reserved : IsReservation ram a.reservation

@@ -2,9 +2,10 @@
 use Rattle.std.specs.Prelude.{ℕ, ◌+◌, ◌-◌, ◌*◌, ◌%◌, Bool, true, not, ◌&&◌, ◌==◌, nat_lt, if◌then◌else◌, List, [], ◌∷◌, None, Some}
 use Rattle.flex_base.specs.Word.{wrap, low, sign_extend, is_multiple}
 use Rattle.flex_base.specs.Place.{in_ram, place_of}
+use Rattle.flex_base.specs.Causes.{instruction_address_misaligned, instruction_access_fault, illegal_instruction, load_address_misaligned, load_access_fault, store_address_misaligned, store_access_fault}
 use Rattle.flex_base.specs.Decoding.{decoded}
 use Rattle.flex_base.specs.Arithmetic.{alu_of, muldiv_of, signed_lt}
-use Rattle.flex_base.specs.FlatMemory.{granule, is_reserved}
+use Rattle.flex_base.specs.FlatMemory.{reservation_set, is_reserved}
 use Rattle.std.specs.Int.{w64}
 use Rattle.flex_base.specs.State.{State, reg, set_reg}
 use Rattle.flex_base.specs.Setup.{Setup}
@@ -48,7 +49,7 @@ traps a cause tval = ComesLater
 
 -- a jump to a misaligned address is an exception of the jump itself (Volume I, "Control Transfer Instructions")
 abbrev pub jumps : State → ℕ → ℕ → Story
-jumps a target rd = if is_multiple target 4 then ends a class.Jump target rd (wrap (a.pc + 4)) else traps a 0 target
+jumps a target rd = if is_multiple target 4 then ends a class.Jump target rd (wrap (a.pc + 4)) else traps a instruction_address_misaligned target
 
 -- an end that goes on at the next instruction with a value for a register
 abbrev pub computes : State → Class → ℕ → ℕ → Story
@@ -85,89 +86,13 @@ at_place place.Ram access fault = access
 at_place place.Device access fault = ComesLater
 at_place place.Nowhere access fault = fault
 
--- an access of so many bytes tests its alignment and then its place (Volume I, "Load and Store Instructions";
--- misaligned accesses trap)
-abbrev pub reaches : Setup → State → ℕ → ℕ → ℕ → ℕ → Story → Story
-reaches setup a address width misaligned fault access =
-    if is_multiple address width then at_place (place_of setup.harts setup.ram address width) access (traps a fault address) else traps a misaligned address
-
--- a load
-abbrev pub loads : Setup → State → ℕ → Bool → ℕ → ℕ → Story
-loads setup a width signed rd address = reaches setup a address width 4 5
-    (Says (acc.Read address width) (λ reply. computes a class.Load rd (extended signed width reply.value)))
-
--- a store; the value is cut to its width
-abbrev pub stores : Setup → State → ℕ → ℕ → ℕ → Story
-stores setup a width address value = reaches setup a address width 6 7
-    (Says (acc.Write address width (low (8 * width) value)) (λ reply. passes a class.Store))
-
--- an atomic instruction tests its alignment and then its place, which is RAM alone (Volume I, "A")
-abbrev pub reaches_ram : Setup → State → ℕ → ℕ → ℕ → ℕ → Story → Story
-reaches_ram setup a address width misaligned fault access =
-    if is_multiple address width then (if in_ram setup.ram address width then access else traps a fault address) else traps a misaligned address
-
--- a load-reserved reserves the aligned 8 bytes (Volume I, "Load-Reserved/Store-Conditional Instructions")
-abbrev pub loads_reserved : Setup → State → ℕ → ℕ → ℕ → Story
-loads_reserved setup a width rd address = reaches_ram setup a address width 4 5
-    (Says (acc.Lr address width) (λ reply. computes (record a { reservation = Some (granule address) }) class.Atomic rd (extended true width reply.value)))
-
 -- the end of a store-conditional, and of the hart's reservation with it
 abbrev pub concludes : State → ℕ → ℕ → Story
 concludes a rd result = computes (record a { reservation = None }) class.Atomic rd result
 
--- a store-conditional makes its access within the hart's reservation alone; elsewhere it fails at once, with 1
-abbrev pub stores_conditional : Setup → State → ℕ → ℕ → ℕ → ℕ → Story
-stores_conditional setup a width rd address value = reaches_ram setup a address width 6 7
-    (if is_reserved a.reservation (granule address)
-    then Says (acc.Sc address width (low (8 * width) value)) (λ reply. concludes a rd reply.value)
-    else concludes a rd 1)
-
--- an atomic memory operation; the register gets what stood in memory (Volume I, "Atomic Memory Operations")
-abbrev pub modifies : Setup → State → AmoOp → ℕ → ℕ → ℕ → ℕ → Story
-modifies setup a does width rd address value = reaches_ram setup a address width 6 7
-    (Says (acc.Amo does address width (low (8 * width) value)) (λ reply. computes a class.Atomic rd (extended true width reply.value)))
-
--- the work of a decoded instruction
-abbrev pub works : Setup → State → Op → Story
-works setup a (op.Lui rd imm) = computes a class.Alu rd imm
-works setup a (op.Auipc rd imm) = computes a class.Alu rd (wrap (a.pc + imm))
-works setup a (op.AluImm does rd rs1 imm) = computes a class.Alu rd (alu_of does (reg a rs1) imm)
-works setup a (op.AluReg does rd rs1 rs2) = computes a class.Alu rd (alu_of does (reg a rs1) (reg a rs2))
-works setup a (op.Muldiv does rd rs1 rs2) = computes a class.Muldiv rd (muldiv_of does (reg a rs1) (reg a rs2))
-works setup a (op.Jal rd imm) = jumps a (wrap (a.pc + imm)) rd
-works setup a (op.Jalr rd rs1 imm) = jumps a (even (wrap (reg a rs1 + imm))) rd
-works setup a (op.Branch compares rs1 rs2 imm) = branches a (is_taken compares (reg a rs1) (reg a rs2)) (wrap (a.pc + imm))
-works setup a (op.Load width signed rd rs1 imm) = loads setup a width signed rd (wrap (reg a rs1 + imm))
-works setup a (op.Store width rs1 rs2 imm) = stores setup a width (wrap (reg a rs1 + imm)) (reg a rs2)
-works setup a (op.Lr width rd rs1 aq rl) = loads_reserved setup a width rd (reg a rs1)
-works setup a (op.Sc width rd rs1 rs2 aq rl) = stores_conditional setup a width rd (reg a rs1) (reg a rs2)
-works setup a (op.Amo does width rd rs1 rs2 aq rl) = modifies setup a does width rd (reg a rs1) (reg a rs2)
-works setup a (op.Fence free) = passes a class.Fence
-works setup a (op.FenceI free) = passes a class.Fence
-works setup a (op.Illegal word) = traps a 2 word
-works setup a other = ComesLater
-
--- the fetch; in mode M no address is translated
-abbrev pub fetches : Setup → State → Story
-fetches setup a = if in_ram setup.ram a.pc 4
-    then Says (acc.Fetch a.pc) (λ reply. works setup a (decoded reply.value))
-    else traps a 1 a.pc
-
 -- time goes on where the ends are a positive multiple of 64
 abbrev pub is_tick : State → Bool
 is_tick a = nat_lt 0 a.ends && is_multiple a.ends 64
-
--- the pulse, where one is due; its lines count from here on
-abbrev pub pulses : Setup → State → Story
-pulses setup a = if a.due
-    then Says (acc.Pulse (is_tick a)) (λ reply. if reply.stop then StaysOver else fetches setup (record a { lines = reply.lines }))
-    else fetches setup a
-
--- the whole instruction; a hart that has spent its budget retires
-abbrev pub story : Setup → State → Story
-story setup a = if a.ends == setup.budget
-    then Says acc.Retire (λ reply. StaysOver)
-    else pulses setup a
 
 -- what follows one reply
 abbrev pub after_one : Story → Reply → Story
@@ -190,6 +115,92 @@ want (Closes part after) = Ends part after
 want StaysOver = IsOver
 want ComesLater = IsLater
 
--- what a hart wants whose instruction began in this state and has had these replies
-abbrev pub ask : Setup → State → List Reply → Want
-ask setup a replies = want (goes (story setup a) replies)
+module _ (setup : Setup) where
+  -- an access of so many bytes tests its alignment and then its place (Volume I, "Load and Store Instructions";
+  -- misaligned accesses trap)
+  abbrev pub reaches : State → ℕ → ℕ → ℕ → ℕ → Story → Story
+  reaches a address width misaligned fault access =
+      if is_multiple address width
+      then at_place (place_of setup.harts setup.ram address width) access (traps a fault address)
+      else traps a misaligned address
+
+  -- a load
+  abbrev pub loads : State → ℕ → Bool → ℕ → ℕ → Story
+  loads a width signed rd address = reaches a address width load_address_misaligned load_access_fault
+      (Says (acc.Read address width) (λ reply. computes a class.Load rd (extended signed width reply.value)))
+
+  -- a store; the value is cut to its width
+  abbrev pub stores : State → ℕ → ℕ → ℕ → Story
+  stores a width address value = reaches a address width store_address_misaligned store_access_fault
+      (Says (acc.Write address width (low (8 * width) value)) (λ reply. passes a class.Store))
+
+  -- an atomic instruction tests its alignment and then its place, which is RAM alone (Volume I, "A")
+  abbrev pub reaches_ram : State → ℕ → ℕ → ℕ → ℕ → Story → Story
+  reaches_ram a address width misaligned fault access =
+      if is_multiple address width
+      then (if in_ram setup.ram address width then access else traps a fault address)
+      else traps a misaligned address
+
+  -- a load-reserved reserves the aligned 8 bytes (Volume I, "Load-Reserved/Store-Conditional Instructions")
+  abbrev pub loads_reserved : State → ℕ → ℕ → ℕ → Story
+  loads_reserved a width rd address = reaches_ram a address width load_address_misaligned load_access_fault
+      (Says (acc.Lr address width) (λ reply.
+          computes (record a { reservation = Some (reservation_set address) }) class.Atomic rd (extended true width reply.value)))
+
+  -- a store-conditional makes its access within the hart's reservation alone; elsewhere it fails at once, with 1
+  abbrev pub stores_conditional : State → ℕ → ℕ → ℕ → ℕ → Story
+  stores_conditional a width rd address value = reaches_ram a address width store_address_misaligned store_access_fault
+      (if is_reserved a.reservation (reservation_set address)
+      then Says (acc.Sc address width (low (8 * width) value)) (λ reply. concludes a rd reply.value)
+      else concludes a rd 1)
+
+  -- an atomic memory operation; the register gets what stood in memory (Volume I, "Atomic Memory Operations")
+  abbrev pub modifies : State → AmoOp → ℕ → ℕ → ℕ → ℕ → Story
+  modifies a does width rd address value = reaches_ram a address width store_address_misaligned store_access_fault
+      (Says (acc.Amo does address width (low (8 * width) value)) (λ reply.
+          computes a class.Atomic rd (extended true width reply.value)))
+
+  -- the work of a decoded instruction
+  abbrev pub works : State → Op → Story
+  works a (op.Lui rd imm) = computes a class.Alu rd imm
+  works a (op.Auipc rd imm) = computes a class.Alu rd (wrap (a.pc + imm))
+  works a (op.AluImm does rd rs1 imm) = computes a class.Alu rd (alu_of does (reg a.x rs1) imm)
+  works a (op.AluReg does rd rs1 rs2) = computes a class.Alu rd (alu_of does (reg a.x rs1) (reg a.x rs2))
+  works a (op.Muldiv does rd rs1 rs2) = computes a class.Muldiv rd (muldiv_of does (reg a.x rs1) (reg a.x rs2))
+  works a (op.Jal rd imm) = jumps a (wrap (a.pc + imm)) rd
+  works a (op.Jalr rd rs1 imm) = jumps a (even (wrap (reg a.x rs1 + imm))) rd
+  works a (op.Branch compares rs1 rs2 imm) =
+      branches a (is_taken compares (reg a.x rs1) (reg a.x rs2)) (wrap (a.pc + imm))
+  works a (op.Load width signed rd rs1 imm) = loads a width signed rd (wrap (reg a.x rs1 + imm))
+  works a (op.Store width rs1 rs2 imm) = stores a width (wrap (reg a.x rs1 + imm)) (reg a.x rs2)
+  works a (op.Lr width rd rs1 aq rl) = loads_reserved a width rd (reg a.x rs1)
+  works a (op.Sc width rd rs1 rs2 aq rl) = stores_conditional a width rd (reg a.x rs1) (reg a.x rs2)
+  works a (op.Amo does width rd rs1 rs2 aq rl) = modifies a does width rd (reg a.x rs1) (reg a.x rs2)
+  works a (op.Fence free) = passes a class.Fence
+  works a (op.FenceI free) = passes a class.Fence
+  works a (op.Illegal word) = traps a illegal_instruction word
+  works a other = ComesLater
+
+  -- the fetch; in mode M no address is translated
+  abbrev pub fetches : State → Story
+  fetches a = if in_ram setup.ram a.pc 4
+      then Says (acc.Fetch a.pc) (λ reply. works a (decoded reply.value))
+      else traps a instruction_access_fault a.pc
+
+  -- a pulse tells the lines, which count from here on, or that the run is to stop
+  abbrev pub after_pulse : State → Reply → Story
+  after_pulse a reply = if reply.stop then StaysOver else fetches (record a { lines = reply.lines })
+
+  -- the pulse, where one is due
+  abbrev pub pulses : State → Story
+  pulses a = if a.due then Says (acc.Pulse (is_tick a)) (after_pulse a) else fetches a
+
+  -- the whole instruction; a hart that has spent its budget retires
+  abbrev pub story : State → Story
+  story a = if a.ends == setup.budget
+      then Says acc.Retire (λ reply. StaysOver)
+      else pulses a
+
+  -- what a hart wants whose instruction began in this state and has had these replies
+  abbrev pub ask : State → List Reply → Want
+  ask a replies = want (goes (story a) replies)

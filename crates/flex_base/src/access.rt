@@ -1,6 +1,6 @@
 ghost use Rattle.std.specs.Prelude.{◌≡◌};
 ghost use Rattle.flex_base.specs.Classes.{class_of_access};
-ghost use Rattle.flex_base.specs.FlatMemory.{reply_with};
+ghost use Rattle.flex_base.specs.FlatMemory.{is_ram_access, reply_with};
 
 use crate::class::Class;
 use crate::operation::AmoOp;
@@ -82,7 +82,7 @@ pub struct Reply {
 
 impl Reply {
     /// A reply that tells a value and nothing else.
-    pub fn told(value: u64) -> Reply
+    pub fn with_value(value: u64) -> Reply
         ensures { result ≡ reply_with value }
     {
         Reply {
@@ -106,5 +106,18 @@ pub fn access_class(acc: &Access) -> Class
         Access::DevRead { .. } | Access::DevWrite { .. } => Class::Device,
         Access::Pulse { .. } | Access::Wait { .. } | Access::Retire => Class::Pulse,
         Access::Time => Class::Csr,
+    }
+}
+
+/// Whether it is an access of RAM. The others are of the devices.
+pub fn is_ram(acc: &Access) -> bool
+    ensures { result ≡ is_ram_access acc.now }
+{
+    match acc {
+        Access::Fetch { .. } | Access::Pte { .. } => true,
+        Access::Read { .. } | Access::Write { .. } => true,
+        Access::Lr { .. } | Access::Sc { .. } | Access::Amo { .. } => true,
+        Access::DevRead { .. } | Access::DevWrite { .. } => false,
+        Access::Pulse { .. } | Access::Wait { .. } | Access::Retire | Access::Time => false,
     }
 }

@@ -1,6 +1,6 @@
 // Counts of faults and calls.
 ghost use Rattle.std.specs.Prelude.{◌≡◌};
-ghost use Rattle.flex_base.specs.InMemory.{one_more};
+ghost use Rattle.flex_base.specs.FilesInMemory.{one_more};
 
 // One more, up to the greatest count.
 pub(crate) fn rise(count: &mut u64)

@@ -22,9 +22,11 @@ mod real_outer;
 mod reservation;
 mod settings;
 mod steady_outer;
+mod streams;
 mod text;
+mod translation;
 
-pub use access::{Access, Reply, access_class};
+pub use access::{Access, Reply, access_class, is_ram};
 pub use class::{Class, capable};
 pub use engine::Engine;
 pub use event::{EndPart, Event, Stop, What};
@@ -36,10 +38,12 @@ pub use memory_outer::MemoryOuter;
 pub use operation::{AluOp, AmoOp, BranchOp, CsrOp, MulOp, Op};
 pub use outer::{Failed, Outer, TakeFault};
 pub use real_outer::RealOuter;
-pub use reservation::{granule, is_reserved};
+pub use reservation::{reservation_set, is_reserved};
 pub use settings::{Layout, Place, RAM_BASE, Settings};
 pub use steady_outer::SteadyOuter;
+pub use streams::write_whole;
 pub use text::Text;
+pub use translation::{Kind, Leaf, WalkStep};
 
 #[cfg(test)]
 mod tests;

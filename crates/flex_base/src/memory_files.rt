@@ -1,8 +1,8 @@
 // Files in memory, which the outer objects over memory share.
-ghost use Rattle.std.specs.Prelude.{◌≡◌, ◌≢◌, ℕ, ◌≤◌, ◌++◌, List, [], length, Option, Some, IfOk, OnOk, OnErr, option_map, unwrap_or};
+ghost use Rattle.std.specs.Prelude.{◌≡◌, ◌≢◌, ℕ, ◌≤◌, ◌<◌, ◌++◌, List, [], length, Option, Some, IfOk, OnOk, OnErr, option_map, unwrap_or};
 ghost use Rattle.std.specs.Result.{result_map_both};
 ghost use Rattle.flex_base.specs.Files.{Files, Taken};
-ghost use Rattle.flex_base.specs.InMemory.{files_of, named, stored};
+ghost use Rattle.flex_base.specs.FilesInMemory.{files_of, entries_of, files_of_map};
 
 use crate::outer::{Failed, TakeFault};
 use crate::text::Text;
@@ -11,7 +11,7 @@ use std::collections::BTreeMap;
 
 // The contents of the first file of this name.
 pub(crate) fn find<'a>(files: &'a [(Text, Vec<u8>)], name: &str) -> Option<&'a [u8]>
-    ensures { option_map (λ r. r.now) result ≡ files_of (named files.now) name.now }
+    ensures { option_map (λ r. r.now) result ≡ files_of (entries_of files.now) name.now }
 {
     for file in files {
         if name.as_bytes() == file.0.bytes() {
@@ -27,6 +27,7 @@ pub(crate) fn copy(alloc: Global, bytes: &[u8], limit: u64) -> Result<Vec<u8>, T
         → Taken (Some files) name limit (result_map_both (λ v. v.items) (λ e. e) result) }
     ensures within { IfOk result (λ v. length v.items ≤ limit) }
     ensures calm { result ≢ Err TakeFault.Failed }
+    ensures over { (n : ℕ) → result ≡ Err (TakeFault.TooLong n) → limit < n }
 {
     let length = bytes.len() as u64;
     if length > limit {
@@ -40,7 +41,7 @@ pub(crate) fn copy(alloc: Global, bytes: &[u8], limit: u64) -> Result<Vec<u8>, T
 
 // The contents of the file of this name.
 pub(crate) fn look<'a>(files: &'a BTreeMap<String, Vec<u8>>, name: &str) -> Option<&'a [u8]>
-    ensures { option_map (λ r. r.now) result ≡ stored files.now name.now }
+    ensures { option_map (λ r. r.now) result ≡ files_of_map files.now name.now }
 {
     match files.get(name) {
         Some(file) => Some(file),
@@ -54,10 +55,10 @@ pub(crate) fn make_empty(
     files: &mut BTreeMap<String, Vec<u8>>,
     name: &str,
 ) -> Result<(), Failed>
-    ensures ok { OnOk result (stored files.new name.now ≡ Some []) }
+    ensures ok { OnOk result (files_of_map files.new name.now ≡ Some []) }
     ensures others { OnOk result
-        ((other : List ℕ) → other ≢ name.now → stored files.new other ≡ stored files.old other) }
-    ensures err { OnErr result ((any : List ℕ) → stored files.new any ≡ stored files.old any) }
+        ((other : List ℕ) → other ≢ name.now → files_of_map files.new other ≡ files_of_map files.old other) }
+    ensures err { OnErr result ((any : List ℕ) → files_of_map files.new any ≡ files_of_map files.old any) }
 {
     let key = match String::from_str(alloc, name) {
         Ok(key) => key,
@@ -77,10 +78,10 @@ pub(crate) fn append(
     bytes: &[u8],
 ) -> Result<(), Failed>
     ensures ok { OnOk result
-        (stored files.new name.now ≡ Some (unwrap_or (stored files.old name.now) [] ++ bytes.now)) }
+        (files_of_map files.new name.now ≡ Some (unwrap_or (files_of_map files.old name.now) [] ++ bytes.now)) }
     ensures others { OnOk result
-        ((other : List ℕ) → other ≢ name.now → stored files.new other ≡ stored files.old other) }
-    ensures err { OnErr result ((any : List ℕ) → stored files.new any ≡ stored files.old any) }
+        ((other : List ℕ) → other ≢ name.now → files_of_map files.new other ≡ files_of_map files.old other) }
+    ensures err { OnErr result ((any : List ℕ) → files_of_map files.new any ≡ files_of_map files.old any) }
 {
     match files.get_mut(name) {
         Some(file) => match file.extend_from_slice(bytes) {
@@ -101,10 +102,10 @@ fn append_new(
     name: &str,
     bytes: &[u8],
 ) -> Result<(), Failed>
-    ensures ok { OnOk result (stored files.new name.now ≡ Some bytes.now) }
+    ensures ok { OnOk result (files_of_map files.new name.now ≡ Some bytes.now) }
     ensures others { OnOk result
-        ((other : List ℕ) → other ≢ name.now → stored files.new other ≡ stored files.old other) }
-    ensures err { OnErr result ((any : List ℕ) → stored files.new any ≡ stored files.old any) }
+        ((other : List ℕ) → other ≢ name.now → files_of_map files.new other ≡ files_of_map files.old other) }
+    ensures err { OnErr result ((any : List ℕ) → files_of_map files.new any ≡ files_of_map files.old any) }
 {
     let key = match String::from_str(alloc, name) {
         Ok(key) => key,

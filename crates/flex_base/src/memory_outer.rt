@@ -1,8 +1,9 @@
-ghost use Rattle.std.specs.Prelude.{◌≡◌, ◌↔◌, ◌⊎◌, ℕ, ◌≤◌, ◌++◌, List, [], length, None, Some, IfOk, IfSome, IsErr, IsErrOf, IsTrue, OnOk, OnErr, option_map};
+ghost use Rattle.std.specs.Prelude.{◌≡◌, ◌↔◌, ◌⊎◌, ℕ, ◌≤◌, ◌<◌, ◌++◌, List, [], length, None, Some, IfOk, IfSome, IsErr, IsErrOf, IsTrue, OnOk, OnErr, option_map};
 ghost use Rattle.std.specs.Result.{result_map_both};
-ghost use Rattle.flex_base.specs.Files.{Taken, Counts, ChangesFile, Appended, AppendedPart, Started};
-ghost use Rattle.flex_base.specs.InMemory.{files_of, named, is_due, one_more};
-ghost use Rattle.flex_base.specs.Memory.{held_files, written_files, said_bytes, failed_reads, failed_writes, calls_made, failing_calls, fails_next, MadeOneCall};
+ghost use Rattle.flex_base.specs.Files.{Taken, ChangesFile, Appended, AppendedPart, Started};
+ghost use Rattle.flex_base.specs.Outside.{OnlyReads, OnlyWrites, OnlySays};
+ghost use Rattle.flex_base.specs.FilesInMemory.{files_of, entries_of, is_due, one_more};
+ghost use Rattle.flex_base.specs.OuterInMemory.{outside_of, held_files, written_files, said_bytes, calls_made, failing_calls, fails_next, MadeOneCall};
 
 use crate::counts::rise;
 use crate::memory_files::{append, copy, find, look, make_empty};
@@ -32,11 +33,8 @@ impl MemoryOuter {
     /// `take`, `start`, `add` and `say` are counted together from 0, and those whose numbers stand
     /// in `failing` fail and write nothing.
     pub fn new(alloc: Global, files: Vec<(Text, Vec<u8>)>, failing: Vec<u64>) -> MemoryOuter
-        ensures held { ⟦<MemoryOuter as Outer>⟧.held result ≡ Some (files_of (named files.items)) }
-        ensures written { ⟦<MemoryOuter as Outer>⟧.written result ≡ Some (λ _. None) }
-        ensures said { ⟦<MemoryOuter as Outer>⟧.said result ≡ Some [] }
-        ensures read_faults { ⟦<MemoryOuter as Outer>⟧.read_faults result ≡ 0 }
-        ensures write_faults { ⟦<MemoryOuter as Outer>⟧.write_faults result ≡ 0 }
+        ensures outside { ⟦<MemoryOuter as Outer>⟧.outside result ≡ record {
+            held = Some (files_of (entries_of files.items)); written = Some (λ _. None); said = Some []; read_faults = 0; write_faults = 0 } }
         ensures calls { calls_made result ≡ 0 }
         ensures failing { failing_calls result ≡ failing.items }
     {
@@ -54,7 +52,7 @@ impl MemoryOuter {
 
     /// The bytes of the written file of this name, or None where no file of that name was written.
     pub fn written(&self, name: &str) -> Option<&[u8]>
-        ensures { IfSome (⟦<MemoryOuter as Outer>⟧.written self.now)
+        ensures { IfSome (⟦<MemoryOuter as Outer>⟧.outside self.now).written
             (λ files. option_map (λ r. r.now) result ≡ files name.now) }
     {
         look(&self.written, name)
@@ -62,22 +60,14 @@ impl MemoryOuter {
 
     /// The bytes said, in their order.
     pub fn said(&self) -> &[u8]
-        ensures { IfSome (⟦<MemoryOuter as Outer>⟧.said self.now) (λ bytes. result.now ≡ bytes) }
+        ensures { IfSome (⟦<MemoryOuter as Outer>⟧.outside self.now).said (λ bytes. result.now ≡ bytes) }
     {
         &self.said
     }
 }
 
 impl Outer for MemoryOuter {
-    ghost held = { λ outer. Some (held_files outer) };
-
-    ghost written = { λ outer. Some (written_files outer) };
-
-    ghost said = { λ outer. Some (said_bytes outer) };
-
-    ghost read_faults = { failed_reads };
-
-    ghost write_faults = { failed_writes };
+    ghost outside = { outside_of };
 
     /// It answers `Failed` exactly where the call is one that fails or no such file is held.
     fn take(&mut self, name: &str, limit: u64) -> Result<Vec<u8>, TakeFault>
@@ -86,13 +76,9 @@ impl Outer for MemoryOuter {
         ensures within { IfOk result (λ v. length v.items ≤ limit) }
         ensures failed { (result ≡ Err TakeFault.Failed)
             ↔ (IsTrue (fails_next self.old) ⊎ (held_files self.old name.now ≡ None)) }
-        ensures cause { Counts (failed_reads self.old) (failed_reads self.new) (IsErrOf result TakeFault.Failed) }
+        ensures over { (n : ℕ) → result ≡ Err (TakeFault.TooLong n) → limit < n }
         ensures counted { MadeOneCall self.old self.new }
-
-        ensures write_faults { failed_writes self.new ≡ failed_writes self.old }
-        ensures held { held_files self.new ≡ held_files self.old }
-        ensures written { written_files self.new ≡ written_files self.old }
-        ensures said { said_bytes self.new ≡ said_bytes self.old }
+        ensures frame { OnlyReads (outside_of self.old) (outside_of self.new) (IsErrOf result TakeFault.Failed) }
     {
         if fails(&mut self.calls, &self.failing) {
             rise(&mut self.read_faults);
@@ -114,12 +100,8 @@ impl Outer for MemoryOuter {
             (ChangesFile (Some (written_files self.old)) (Some (written_files self.new)) name.now Started) }
         ensures nothing { OnErr result
             ((any : List ℕ) → written_files self.new any ≡ written_files self.old any) }
-        ensures cause { Counts (failed_writes self.old) (failed_writes self.new) (IsErr result) }
         ensures counted { MadeOneCall self.old self.new }
-
-        ensures read_faults { failed_reads self.new ≡ failed_reads self.old }
-        ensures held { held_files self.new ≡ held_files self.old }
-        ensures said { said_bytes self.new ≡ said_bytes self.old }
+        ensures frame { OnlyWrites (outside_of self.old) (outside_of self.new) (IsErr result) }
     {
         if fails(&mut self.calls, &self.failing) {
             rise(&mut self.write_faults);
@@ -143,12 +125,8 @@ impl Outer for MemoryOuter {
             (ChangesFile (Some (written_files self.old)) (Some (written_files self.new)) name.now (AppendedPart bytes.now)) }
         ensures nothing { OnErr result
             ((any : List ℕ) → written_files self.new any ≡ written_files self.old any) }
-        ensures cause { Counts (failed_writes self.old) (failed_writes self.new) (IsErr result) }
         ensures counted { MadeOneCall self.old self.new }
-
-        ensures read_faults { failed_reads self.new ≡ failed_reads self.old }
-        ensures held { held_files self.new ≡ held_files self.old }
-        ensures said { said_bytes self.new ≡ said_bytes self.old }
+        ensures frame { OnlyWrites (outside_of self.old) (outside_of self.new) (IsErr result) }
     {
         if fails(&mut self.calls, &self.failing) {
             rise(&mut self.write_faults);
@@ -168,12 +146,8 @@ impl Outer for MemoryOuter {
         ensures due { IsTrue (fails_next self.old) → IsErr result }
         ensures ok { OnOk result (said_bytes self.new ≡ said_bytes self.old ++ bytes.now) }
         ensures nothing { OnErr result (said_bytes self.new ≡ said_bytes self.old) }
-        ensures cause { Counts (failed_writes self.old) (failed_writes self.new) (IsErr result) }
         ensures counted { MadeOneCall self.old self.new }
-
-        ensures read_faults { failed_reads self.new ≡ failed_reads self.old }
-        ensures held { held_files self.new ≡ held_files self.old }
-        ensures written { written_files self.new ≡ written_files self.old }
+        ensures frame { OnlySays (outside_of self.old) (outside_of self.new) (IsErr result) }
     {
         if fails(&mut self.calls, &self.failing) {
             rise(&mut self.write_faults);

@@ -1,53 +1,54 @@
-ghost use Rattle.std.specs.Prelude.{◌≡◌, ℕ, ◌≤◌, None, IfOk, length, vec_len};
+ghost use Rattle.std.specs.Prelude.{◌≡◌, ℕ, ◌≤◌, ◌<◌, None, Err, IfOk, length};
 
 use crate::counts::rise;
 use crate::outer::{Failed, Outer, TakeFault};
-use std::alloc::{AllocError, Global};
-use std::fs::{File, OpenFile, OpenOptions};
-use std::io;
-use std::io::{Read, Write};
-use std::rt::Runtime;
-
-// How many bytes one read asks for.
-const PIECE: usize = 65_536;
+use crate::streams::{read_whole, write_whole};
+use crate::text::Text;
+use std::fs::{File, Files, OpenFile, OpenOptions};
+use std::os::unix::fs::MetadataExt;
+use std::{fs, io};
 
 /// The files of the system, and standard output.
 ///
-/// It tells no contents. A folder, a missing file and one that can't be read are read faults.
+/// It tells no contents. A folder, a missing file and one that can't be read are read faults. A file
+/// that is started stays open and takes what is added to it, as long as its name leads to it: where
+/// the file was removed, moved or replaced, `add` fails. An `add` makes no file.
 #[derive(Drop)]
-pub struct RealOuter<R: Runtime + AllocGlobal> {
+pub struct RealOuter<R: Files + Print + AllocGlobal> {
     rt: R,
+    opened: Option<Opened<R::File>>,
     read_faults: u64,
     write_faults: u64,
 }
 
-impl<R: Runtime + AllocGlobal> RealOuter<R> {
+impl<R: Files + Print + AllocGlobal> RealOuter<R> {
     /// The outside as this runtime reaches it.
     pub fn new(rt: R) -> RealOuter<R>
-        ensures held { ⟦<RealOuter<R> as Outer>⟧.held result ≡ None }
-        ensures written { ⟦<RealOuter<R> as Outer>⟧.written result ≡ None }
-        ensures said { ⟦<RealOuter<R> as Outer>⟧.said result ≡ None }
-        ensures read_faults { ⟦<RealOuter<R> as Outer>⟧.read_faults result ≡ 0 }
-        ensures write_faults { ⟦<RealOuter<R> as Outer>⟧.write_faults result ≡ 0 }
+        ensures { ⟦<RealOuter<R> as Outer>⟧.outside result ≡ record {
+          held = None;
+          written = None;
+          said = None;
+          read_faults = 0;
+          write_faults = 0;
+        } }
     {
         RealOuter {
             rt,
+            opened: None,
             read_faults: 0,
             write_faults: 0,
         }
     }
 }
 
-impl<R: Runtime + AllocGlobal> Outer for RealOuter<R> {
-    ghost held = { λ _. None };
-
-    ghost written = { λ _. None };
-
-    ghost said = { λ _. None };
-
-    ghost read_faults = { λ outer. outer.read_faults };
-
-    ghost write_faults = { λ outer. outer.write_faults };
+impl<R: Files + Print + AllocGlobal> Outer for RealOuter<R> {
+    ghost outside = { λ outer. record {
+      held = None;
+      written = None;
+      said = None;
+      read_faults = outer.read_faults;
+      write_faults = outer.write_faults;
+    } };
 
     fn take(&mut self, name: &str, limit: u64) -> Result<Vec<u8>, TakeFault> {
         match read_file(&self.rt, name, limit) {
@@ -62,9 +63,12 @@ impl<R: Runtime + AllocGlobal> Outer for RealOuter<R> {
     }
 
     fn start(&mut self, name: &str) -> Result<(), Failed> {
-        match File::create(&self.rt, name) {
-            Ok(_) => Ok(()),
-            Err(_) => {
+        match create(&self.rt, name) {
+            Ok(opened) => {
+                self.opened = Some(opened);
+                Ok(())
+            }
+            Err(Failed) => {
                 rise(&mut self.write_faults);
                 Err(Failed)
             }
@@ -72,8 +76,11 @@ impl<R: Runtime + AllocGlobal> Outer for RealOuter<R> {
     }
 
     fn add(&mut self, name: &str, bytes: &[u8]) -> Result<(), Failed> {
-        match append_to_file(&self.rt, name, bytes) {
-            Ok(()) => Ok(()),
+        match add_to(&self.rt, self.opened.take(), name, bytes) {
+            Ok(opened) => {
+                self.opened = Some(opened);
+                Ok(())
+            }
             Err(Failed) => {
                 rise(&mut self.write_faults);
                 Err(Failed)
@@ -92,9 +99,73 @@ impl<R: Runtime + AllocGlobal> Outer for RealOuter<R> {
     }
 }
 
+// A file that was opened to be written, and the name that led to it.
+#[derive(Drop)]
+struct Opened<F> {
+    name: Text,
+    file: F,
+}
+
+// Makes the file of this name empty. Its name is copied first, so that want of memory changes nothing.
+fn create<R: Files + AllocGlobal>(rt: &R, name: &str) -> Result<Opened<R::File>, Failed> {
+    let text = copy_name(rt, name)?;
+    match File::create(rt, name) {
+        Ok(file) => Ok(Opened { name: text, file }),
+        Err(_) => Err(Failed),
+    }
+}
+
+// A file that is already there, to add bytes at its end.
+fn open<R: Files + AllocGlobal>(rt: &R, name: &str) -> Result<Opened<R::File>, Failed> {
+    let text = copy_name(rt, name)?;
+    match OpenOptions::new().append(true).open(rt, name) {
+        Ok(file) => Ok(Opened { name: text, file }),
+        Err(_) => Err(Failed),
+    }
+}
+
+fn copy_name<R: AllocGlobal>(rt: &R, name: &str) -> Result<Text, Failed>
+    ensures { IfOk result (λ text. text ≡ name.now) }
+{
+    match Text::of(rt.alloc(), name.as_bytes()) {
+        Ok(text) => Ok(text),
+        Err(_) => Err(Failed),
+    }
+}
+
+// Adds bytes to the file of this name, which it opens where another is open or none. Whether the
+// name leads to the file is seen after the write, so that what stands under the name has the bytes.
+fn add_to<R: Files + AllocGlobal>(
+    rt: &R,
+    opened: Option<Opened<R::File>>,
+    name: &str,
+    bytes: &[u8],
+) -> Result<Opened<R::File>, Failed> {
+    let same = opened.filter(|opened| opened.name.bytes() == name.as_bytes());
+    let mut opened = match same {
+        Some(opened) => opened,
+        None => open(rt, name)?,
+    };
+    write_whole(&mut opened.file, bytes)?;
+    if leads_to(rt, name, &opened.file) {
+        Ok(opened)
+    } else {
+        Err(Failed)
+    }
+}
+
+// Whether the name leads to this open file: the device and the file's number on it are the same.
+fn leads_to<R: Files>(rt: &R, name: &str, file: &R::File) -> bool {
+    match (fs::metadata(rt, name), file.metadata()) {
+        (Ok(named), Ok(opened)) => named.dev() == opened.dev() && named.ino() == opened.ino(),
+        _ => false,
+    }
+}
+
 // All bytes of a file, if they are no more than the limit.
-fn read_file<R: Runtime + AllocGlobal>(rt: &R, name: &str, limit: u64) -> Result<Vec<u8>, TakeFault>
-    ensures { IfOk result (λ v. length v.items ≤ limit) }
+fn read_file<R: Files + AllocGlobal>(rt: &R, name: &str, limit: u64) -> Result<Vec<u8>, TakeFault>
+    ensures within { IfOk result (λ v. length v.items ≤ limit) }
+    ensures over { (n : ℕ) → result ≡ Err (TakeFault.TooLong n) → limit < n }
 {
     let mut file = match File::open(rt, name) {
         Ok(file) => file,
@@ -111,64 +182,4 @@ fn read_file<R: Runtime + AllocGlobal>(rt: &R, name: &str, limit: u64) -> Result
         return Err(TakeFault::TooLong(about.len()));
     }
     read_whole(rt.alloc(), &mut file, limit)
-}
-
-// What a reader gives up to its end or to the limit.
-fn read_whole<F: Read>(alloc: Global, file: &mut F, limit: u64) -> Result<Vec<u8>, TakeFault>
-    ensures { IfOk result (λ v. length v.items ≤ limit) }
-{
-    let mut bytes = Vec::new(alloc);
-    let mut piece = match blank(alloc, PIECE) {
-        Ok(piece) => piece,
-        Err(_) => return Err(TakeFault::OutOfMemory),
-    };
-    'reads: for _ in 0..u64::MAX {
-        let room = limit - bytes.len() as u64;
-        let wanted = if room < PIECE as u64 {
-            room as usize
-        } else {
-            PIECE
-        };
-        match file.read(&mut piece[..wanted]) {
-            Ok(0) => break,
-            Ok(count) => match bytes.extend_from_slice(&piece[..count]) {
-                Ok(()) => {}
-                Err(_) => return Err(TakeFault::OutOfMemory),
-            },
-            Err(_) => return Err(TakeFault::Failed),
-        }
-    }
-    Ok(bytes)
-}
-
-// So many bytes, all zero.
-fn blank(alloc: Global, size: usize) -> Result<Vec<u8>, AllocError>
-    ensures { IfOk result (λ v. vec_len v ≡ size) }
-{
-    Ok(vec![in alloc; 0u8; size]?)
-}
-
-fn append_to_file<R: Runtime + AllocGlobal>(
-    rt: &R,
-    name: &str,
-    bytes: &[u8],
-) -> Result<(), Failed> {
-    let opened = OpenOptions::new().append(true).create(true).open(rt, name);
-    match opened {
-        Ok(mut file) => write_whole(&mut file, bytes),
-        Err(_) => Err(Failed),
-    }
-}
-
-// Writes all bytes. It fails where a write fails or takes nothing of them.
-fn write_whole<W: Write>(writer: &mut W, bytes: &[u8]) -> Result<(), Failed> {
-    let mut rest = bytes;
-    while !rest.is_empty() {
-        match writer.write(rest) {
-            Ok(0) => return Err(Failed),
-            Ok(count) => rest = &rest[count..],
-            Err(_) => return Err(Failed),
-        }
-    }
-    Ok(())
 }

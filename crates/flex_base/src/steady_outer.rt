@@ -1,5 +1,5 @@
 ghost use Rattle.std.specs.Prelude.{◌≡◌, None, Some};
-ghost use Rattle.flex_base.specs.InMemory.{files_or_empty, named};
+ghost use Rattle.flex_base.specs.FilesInMemory.{files_or_empty, entries_of};
 
 use crate::memory_files::{copy, find};
 use crate::outer::{Failed, Outer, TakeFault};
@@ -20,26 +20,16 @@ impl SteadyOuter {
     /// An outside that holds these files; of two of one name it holds the first. What is taken is
     /// copied into memory of `alloc`.
     pub fn new(alloc: Global, files: Vec<(Text, Vec<u8>)>) -> SteadyOuter
-        ensures held { ⟦<SteadyOuter as Outer>⟧.held result ≡ Some (files_or_empty (named files.items)) }
-        ensures written { ⟦<SteadyOuter as Outer>⟧.written result ≡ None }
-        ensures said { ⟦<SteadyOuter as Outer>⟧.said result ≡ None }
-        ensures read_faults { ⟦<SteadyOuter as Outer>⟧.read_faults result ≡ 0 }
-        ensures write_faults { ⟦<SteadyOuter as Outer>⟧.write_faults result ≡ 0 }
+        ensures { ⟦<SteadyOuter as Outer>⟧.outside result ≡ record {
+            held = Some (files_or_empty (entries_of files.items)); written = None; said = None; read_faults = 0; write_faults = 0 } }
     {
         SteadyOuter { alloc, files }
     }
 }
 
 impl Outer for SteadyOuter {
-    ghost held = { λ outer. Some (files_or_empty (named outer.files.items)) };
-
-    ghost written = { λ _. None };
-
-    ghost said = { λ _. None };
-
-    ghost read_faults = { λ _. 0 };
-
-    ghost write_faults = { λ _. 0 };
+    ghost outside = { λ outer. record {
+        held = Some (files_or_empty (entries_of outer.files.items)); written = None; said = None; read_faults = 0; write_faults = 0 } };
 
     fn take(&mut self, name: &str, limit: u64) -> Result<Vec<u8>, TakeFault> {
         match find(&self.files, name) {

@@ -1,8 +1,13 @@
 use super::*;
+
+mod heard;
+
+use crate::streams::read_whole;
 use std::alloc::{AllocError, Global};
-use std::fs;
+use std::io::{Read, Write};
 use std::process::Abort;
 use std::test::Fail;
+use std::{fs, io};
 
 fn files(alloc: Global, listed: &[(&str, &str)]) -> Result<Vec<(Text, Vec<u8>)>, AllocError> {
     let mut files = Vec::new(alloc);
@@ -115,9 +120,10 @@ fn steady_outer_holds_each_other_name_as_an_empty_file(rt: HostRuntime) -> Resul
 fn real_outer_writes_and_takes_files(rt: HostRuntime) -> Result<(), Fail> {
     let mut outer = RealOuter::new(rt.clone()?);
     outer.start("written")?;
-    outer.add("written", b"lost")?;
+    outer.add("written", b"more than is added later")?;
     outer.start("written")?;
     outer.add("written", b"first ")?;
+    outer.start("other")?;
     outer.add("written", b"second")?;
     assert_eq!(rt;
         outer.take("written", 12)?.as_slice(),
@@ -127,12 +133,103 @@ fn real_outer_writes_and_takes_files(rt: HostRuntime) -> Result<(), Fail> {
         outer.take("written", 11).err(),
         Some(TakeFault::TooLong(12))
     );
-    assert_eq!(rt; outer.take("missing", 11).err(), Some(TakeFault::Failed));
-    assert_eq!(rt; outer.take(".", u64::MAX).err(), Some(TakeFault::Failed));
-    assert_eq!(rt; outer.take(".", 1).err(), Some(TakeFault::Failed));
-    assert_eq!(rt; outer.add("missing/file", b"x").err(), Some(Failed));
-    outer.say(b"")?;
+    assert_eq!(rt; outer.take("other", 0)?.len(), 0);
+    assert_eq!(rt;
+        outer.take("/dev/zero", 100_000).err(),
+        Some(TakeFault::TooLong(100_001))
+    );
+    for name in ["missing", ".", "written/below"] {
+        assert_eq!(rt;
+            outer.take(name, u64::MAX).err(),
+            Some(TakeFault::Failed),
+            "take {name}"
+        );
+        assert_eq!(rt; outer.add(name, b"x").err(), Some(Failed), "add {name}");
+    }
+    assert!(rt; !fs::exists(&rt, "missing")?);
     fs::remove_file(&rt, "written")?;
+    fs::remove_file(&rt, "other")?;
+    Ok(())
+}
+
+#[test]
+fn real_outer_adds_many_bytes_to_one_file(rt: HostRuntime) -> Result<(), Fail> {
+    let mut bytes = Vec::new(rt.alloc());
+    for number in 0..50_000u32 {
+        bytes.extend_from_slice(&number.to_le_bytes())?;
+    }
+    let mut outer = RealOuter::new(rt.clone()?);
+    outer.start("long")?;
+    for piece in bytes.chunks(70_000) {
+        outer.add("long", piece)?;
+    }
+    assert!(rt; outer.take("long", 200_000)?.as_slice() == bytes.as_slice());
+    fs::remove_file(&rt, "long")?;
+    assert_eq!(rt; outer.add("long", b"x").err(), Some(Failed), "removed");
+    assert!(rt; !fs::exists(&rt, "long")?);
+    outer.start("long")?;
+    outer.add("long", b"kept")?;
+    fs::rename(&rt, "long", "moved")?;
+    fs::write(&rt, "long", b"another")?;
+    assert_eq!(rt; outer.add("long", b"x").err(), Some(Failed), "replaced");
+    assert_eq!(rt; outer.take("long", 7)?.as_slice(), b"another".as_slice());
+    fs::remove_file(&rt, "long")?;
+    fs::remove_file(&rt, "moved")?;
+    Ok(())
+}
+
+// Each other call is interrupted, and the others move at most 3 bytes.
+#[derive(Drop)]
+struct Halting<S> {
+    stream: S,
+    is_due: bool,
+}
+
+impl<S> Halting<S> {
+    fn halt(&mut self) -> io::Result<()> {
+        self.is_due = !self.is_due;
+        if self.is_due {
+            return Err(io::Error::from(io::ErrorKind::Interrupted));
+        }
+        Ok(())
+    }
+}
+
+impl<S: Read> Read for Halting<S> {
+    fn read(&mut self, buf: &mut [u8]) -> io::Result<usize> {
+        self.halt()?;
+        let most = buf.len().min(3);
+        self.stream.read(&mut buf[..most])
+    }
+}
+
+impl<S: Write> Write for Halting<S> {
+    fn write(&mut self, buf: &[u8]) -> io::Result<usize> {
+        self.halt()?;
+        self.stream.write(&buf[..buf.len().min(3)])
+    }
+
+    fn flush(&mut self) -> io::Result<()> {
+        Ok(())
+    }
+}
+
+#[test]
+fn whole_streams_pass_over_interrupts(rt: HostRuntime) -> Result<(), Fail> {
+    let mut writer = Halting {
+        stream: Vec::new(rt.alloc()),
+        is_due: false,
+    };
+    write_whole(&mut writer, b"eight by")?;
+    assert_eq!(rt; writer.stream.as_slice(), b"eight by".as_slice());
+    for (limit, length) in [(7, None), (8, Some(8)), (u64::MAX, Some(8))] {
+        let mut reader = Halting {
+            stream: writer.stream.as_slice(),
+            is_due: false,
+        };
+        let read = read_whole(rt.alloc(), &mut reader, limit);
+        assert_eq!(rt; read.ok().map(|bytes| bytes.len()), length, "limit {limit}");
+    }
     Ok(())
 }
 

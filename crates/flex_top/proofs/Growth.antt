@@ -30,16 +30,22 @@ grows_appended (Some a) (Some b) name x p = (ap (λ (o : Option (List ℕ)). unw
 pub filled : (held bytes piece : List ℕ) (left : ℕ) → piece ≡ held ++ take left bytes → piece ++ drop left bytes ≡ held ++ bytes
 filled held bytes piece left full = rw full (append_assoc held (take left bytes) (drop left bytes) ∙ ap (λ t. held ++ t) (take-append-drop left bytes))
 
+gained_part : (old new : Option (List ℕ)) (piece : List ℕ) → AppendedPart piece old new → (n : ℕ) × (unwrap_or new [] ≡ unwrap_or old [] ++ take n piece)
+gained_part old new piece (inl same) = (0, ap (λ (o : Option (List ℕ)). unwrap_or o []) same ∙ sym (append-nil _))
+gained_part old new piece (inr part) = (part.0, ap (λ (o : Option (List ℕ)). unwrap_or o []) part.1)
+
 -- a failed piece of what is held and added
 pub part_of : (a b : Option Files) (name piece rest held bytes : List ℕ) → piece ++ rest ≡ held ++ bytes → ChangesFile a b name (AppendedPart piece) → PassesPart a b name held bytes
 part_of None b name piece rest held bytes whole p = record { added = []; rest = held ++ bytes; grows = p; whole = refl }
 part_of (Some a) None name piece rest held bytes whole p = absurd p
-part_of (Some a) (Some b) name piece rest held bytes whole p = record {
-  added = take p.0.0 piece;
-  rest = drop p.0.0 piece ++ rest;
-  grows = (p.0.1, p.1);
-  whole = sym (append_assoc (take p.0.0 piece) (drop p.0.0 piece) rest) ∙ ap (λ t. t ++ rest) (take-append-drop p.0.0 piece) ∙ whole;
-}
+part_of (Some a) (Some b) name piece rest held bytes whole p =
+    let (n, gained) = gained_part (a name) (b name) piece p.0 in
+    record {
+      added = take n piece;
+      rest = drop n piece ++ rest;
+      grows = (gained, p.1);
+      whole = sym (append_assoc (take n piece) (drop n piece) rest) ∙ ap (λ t. t ++ rest) (take-append-drop n piece) ∙ whole;
+    }
 
 joined : (a a' held held' held'' x y : List ℕ) → a ++ held' ≡ held ++ x → a' ++ held'' ≡ held' ++ y → (a ++ a') ++ held'' ≡ held ++ (x ++ y)
 joined a a' held held' held'' x y p q =

@@ -1,5 +1,5 @@
 pub mod Asking
 pub mod Beginning
+pub mod Needing
 pub mod Operands
 pub mod Reserving
-pub mod Told

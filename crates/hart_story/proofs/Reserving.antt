@@ -4,8 +4,8 @@ use Rattle.flex_base.specs.Word.{is_multiple}
 use Rattle.flex_base.specs.Limits.{mebibyte}
 use Rattle.flex_base.specs.Place.{in_ram}
 use Rattle.flex_base.specs.Forms.{IsAtomicWidth}
-use Rattle.flex_base.specs.FlatMemory.{granule}
-use Rattle.hart_story.specs.Telling.{IsReservation}
+use Rattle.flex_base.specs.FlatMemory.{reservation_set}
+use Rattle.flex_base.specs.State.{IsReservation}
 
-pub granule_reserved : (ram address width : ℕ) → is_multiple ram mebibyte ≡ true → IsAtomicWidth width → in_ram ram address width ≡ true → IsReservation ram (Some (granule address))
-granule_reserved ram address width whole wide inside = grind arith
+pub set_in_ram : (ram address width : ℕ) → is_multiple ram mebibyte ≡ true → IsAtomicWidth width → in_ram ram address width ≡ true → IsReservation ram (Some (reservation_set address))
+set_in_ram ram address width whole wide inside = grind arith

@@ -1,4 +1,5 @@
 pub mod StandsFor
 pub mod Operands
-pub mod Progressing
-pub mod Telling
+pub mod Outcome
+pub mod Need
+pub mod Progress

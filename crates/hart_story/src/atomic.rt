@@ -1,26 +1,22 @@
-ghost use Rattle.std.specs.Prelude.{◌≡◌, ℕ, ◌<◌};
-ghost use Rattle.flex_base.specs.Setup.{Setup};
-ghost use Rattle.flex_base.specs.State.{State};
+ghost use Rattle.std.specs.Prelude.{◌<◌};
 ghost use Rattle.flex_base.specs.Forms.{IsAtomicWidth};
 ghost use Rattle.flex_base.specs.Story.{loads_reserved, stores_conditional, concludes, modifies};
 ghost use Rattle.flex_base.specs.declared.settings.Layout.{Layout};
 ghost use Rattle.hart_story.specs.declared.hart.Hart.{Hart};
-ghost use Rattle.hart_story.specs.Progressing.{IsOf};
-ghost use Rattle.hart_story.specs.StandsFor.{Shows};
-ghost use Rattle.hart_story.specs.Telling.{end_of, outcome_of, IsSoundEnd, IsSoundOutcome};
+ghost use Rattle.hart_story.specs.Outcome.{ComesTo, EndsAs, IsSoundEnd, IsSoundOutcome};
 
+use crate::ends::end_reserving;
 use crate::hart::Hart;
-use crate::memory::where_reached;
+use crate::memory::where_in_ram;
 use crate::outcome::{End, Outcome};
-use crate::register::reserved;
 use crate::width::cut;
-use flex_base::{Access, AmoOp, Class, Layout, granule, is_reserved};
+use flex_base::{Access, AmoOp, Class, Layout, reservation_set, is_reserved};
 
-// A load-reserved.
 pub(crate) fn load_reserved(layout: &Layout, width: u8, rd: u8, address: u64) -> Outcome
     requires width { IsAtomicWidth width }
     requires register { rd < 32 }
-    ensures works { (setup : Setup) (most : ℕ) (a : State) → IsOf setup layout.now most → loads_reserved setup a width rd address ≡ outcome_of a result }
+    ensures works { (hart : Hart) → ComesTo layout.now hart
+        (λ setup a. loads_reserved setup a width rd address) result }
     ensures sound { (hart : Hart) → IsSoundOutcome layout.now hart result }
 {
     let ask = Outcome::Ask {
@@ -28,10 +24,10 @@ pub(crate) fn load_reserved(layout: &Layout, width: u8, rd: u8, address: u64) ->
         signed: true,
         rd,
     };
-    where_reached(layout, address, width, ask)
+    where_in_ram(layout, address, width, ask)
 }
 
-// A store-conditional. Where the hart has no reservation of these 8 bytes it fails with no access.
+// Where the hart has no reservation of these 8 bytes a store-conditional fails with no access.
 pub(crate) fn store_conditional(
     hart: &Hart,
     layout: &Layout,
@@ -42,11 +38,10 @@ pub(crate) fn store_conditional(
 ) -> Outcome
     requires width { IsAtomicWidth width }
     requires register { rd < 32 }
-    ensures works { (setup : Setup) (most : ℕ) (a : State) → IsOf setup layout.now most → Shows hart.now a
-        → stores_conditional setup a width rd address value ≡ outcome_of a result }
+    ensures works { ComesTo layout.now hart.now (λ setup a. stores_conditional setup a width rd address value) result }
     ensures sound { IsSoundOutcome layout.now hart.now result }
 {
-    let outcome = if is_reserved(hart.regs.reservation, granule(address)) {
+    let outcome = if is_reserved(hart.regs.reservation, reservation_set(address)) {
         Outcome::Ask {
             access: Access::Sc {
                 address,
@@ -57,21 +52,21 @@ pub(crate) fn store_conditional(
             rd,
         }
     } else {
-        Outcome::End(concluded(hart, rd, 1))
+        Outcome::End(end_conditional(hart, rd, 1))
     };
-    where_reached(layout, address, width, outcome)
+    where_in_ram(layout, address, width, outcome)
 }
 
-// The end of a store-conditional, and of the hart's reservation with it.
-pub(crate) fn concluded(hart: &Hart, rd: u8, status: u64) -> End
+// A store-conditional ends the hart's reservation, whether it stored or not (Volume I,
+// "Load-Reserved/Store-Conditional Instructions").
+pub(crate) fn end_conditional(hart: &Hart, rd: u8, status: u64) -> End
     requires { rd < 32 }
-    ensures works { (a : State) → Shows hart.now a → concludes a rd status ≡ end_of a result }
+    ensures works { EndsAs hart.now (λ a. concludes a rd status) result }
     ensures sound { (layout : Layout) → IsSoundEnd layout hart.now result }
 {
-    reserved(hart, Class::Atomic, rd, status, None)
+    end_reserving(hart, Class::Atomic, rd, status, None)
 }
 
-// An atomic memory operation.
 pub(crate) fn modify(
     layout: &Layout,
     op: AmoOp,
@@ -82,7 +77,8 @@ pub(crate) fn modify(
 ) -> Outcome
     requires width { IsAtomicWidth width }
     requires register { rd < 32 }
-    ensures works { (setup : Setup) (most : ℕ) (a : State) → IsOf setup layout.now most → modifies setup a op width rd address value ≡ outcome_of a result }
+    ensures works { (hart : Hart) → ComesTo layout.now hart
+        (λ setup a. modifies setup a op width rd address value) result }
     ensures sound { (hart : Hart) → IsSoundOutcome layout.now hart result }
 {
     let ask = Outcome::Ask {
@@ -95,5 +91,5 @@ pub(crate) fn modify(
         signed: true,
         rd,
     };
-    where_reached(layout, address, width, ask)
+    where_in_ram(layout, address, width, ask)
 }

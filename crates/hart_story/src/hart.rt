@@ -29,7 +29,7 @@ impl Hart {
 // The value of a register.
 pub(crate) fn read(hart: &Hart, r: u8) -> u64
     requires { r < 32 }
-    ensures { (a : State) → Shows hart.now a → result ≡ reg a r }
+    ensures { (a : State) → Shows hart.now a → result ≡ reg a.x r }
 {
     hart.regs.get(r)
 }

@@ -1,20 +1,18 @@
 ghost use Rattle.std.specs.Prelude.{◌≡◌, ◌<◌};
-ghost use Rattle.flex_base.specs.State.{State};
 ghost use Rattle.flex_base.specs.Story.{jumps, branches, is_taken, even};
 ghost use Rattle.flex_base.specs.declared.settings.Layout.{Layout};
-ghost use Rattle.hart_story.specs.StandsFor.{Shows};
-ghost use Rattle.hart_story.specs.Telling.{outcome_of, IsSoundOutcome};
+ghost use Rattle.hart_story.specs.Outcome.{ComesAs, IsSoundOutcome};
 
+use crate::ends::end_without;
 use crate::hart::Hart;
 use crate::outcome::{End, Outcome};
-use crate::register::passed;
 use flex_base::{BranchOp, Class};
 
 // A jump, which links the next instruction. To a misaligned address it is an exception, and those
 // aren't built yet.
 pub(crate) fn jump(hart: &Hart, target: u64, rd: u8) -> Outcome
     requires { rd < 32 }
-    ensures works { (a : State) → Shows hart.now a → outcome_of a result ≡ jumps a target rd }
+    ensures works { ComesAs hart.now (λ a. jumps a target rd) result }
     ensures sound { (layout : Layout) → IsSoundOutcome layout hart.now result }
 {
     if target % 4 != 0 {
@@ -31,13 +29,13 @@ pub(crate) fn jump(hart: &Hart, target: u64, rd: u8) -> Outcome
 
 // A conditional branch on these two values.
 pub(crate) fn branch(hart: &Hart, op: BranchOp, x: u64, y: u64, target: u64) -> Outcome
-    ensures works { (a : State) → Shows hart.now a → outcome_of a result ≡ branches a (is_taken op x y) target }
+    ensures works { ComesAs hart.now (λ a. branches a (is_taken op x y) target) result }
     ensures sound { (layout : Layout) → IsSoundOutcome layout hart.now result }
 {
     if takes(op, x, y) {
         jump(hart, target, 0)
     } else {
-        Outcome::End(passed(hart, Class::Jump))
+        Outcome::End(end_without(hart, Class::Jump))
     }
 }
 
@@ -54,7 +52,6 @@ fn takes(op: BranchOp, x: u64, y: u64) -> bool
     }
 }
 
-// The address without its lowest bit.
 pub(crate) fn even(address: u64) -> u64
     ensures { result ≡ even address }
 {

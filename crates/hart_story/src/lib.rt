@@ -3,12 +3,12 @@
 #![tactic(auto)]
 
 mod atomic;
+mod ends;
 mod hart;
 mod jump;
 mod memory;
 mod outcome;
 mod progress;
-mod register;
 mod reply;
 mod story;
 mod width;

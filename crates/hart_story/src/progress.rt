@@ -10,8 +10,8 @@ pub enum Progress {
     Pulsed(u64),
     /// The word was fetched, with these interrupt lines, and the instruction now comes to this.
     Working(u64, Outcome),
-    /// The hart has spent its budget and is over.
-    Retired,
+    /// The hart has nothing left to do: it has spent its budget, or was told to stop.
+    Over,
 }
 
 impl Progress {
@@ -32,7 +32,7 @@ pub enum Need {
     Ask(Access, Class),
     /// It ends its instruction, with an end of this class.
     Finish(Class),
-    /// It has spent its budget and does nothing any more.
+    /// It does nothing any more: it has spent its budget, or was told to stop.
     Over,
     /// What it does next isn't built yet.
     Unbuilt,

@@ -1,9 +1,8 @@
 ghost use Rattle.std.specs.Prelude.{◌≡◌, ◌*◌, ◌^◌, ◌<◌, true};
-ghost use Rattle.flex_base.specs.State.{IsFit};
+ghost use Rattle.flex_base.specs.State.{State, IsFit, IsReservation};
 ghost use Rattle.flex_base.specs.Forms.{HasForm};
 ghost use Rattle.flex_base.specs.FlatMemory.{reply_with};
-ghost use Rattle.hart_state.specs.StateOf.{state_of};
-ghost use Rattle.hart_story.specs.Telling.{IsReservation};
+ghost use Rattle.hart_story.specs.StandsFor.{StandsFor};
 
 use super::*;
 use flex_base::{Access, AmoOp, Class, EndPart, HartId, Layout, Mode, Place, Reply};
@@ -39,7 +38,7 @@ fn hart_at(pc: u64, ends: u64, due: bool) -> Hart {
 }
 
 fn assert_fit(rt: &impl Abort, hart: &Hart, budget: u64)
-    ensures { IsFit 1048576 budget (state_of hart.now.regs) }
+    ensures { (a : State) → StandsFor hart.now a → IsFit 1048576 budget a }
 {
     assert!(rt; hart.regs.pc % 4 == 0);
     assert!(rt; hart.regs.ends <= budget);
@@ -69,14 +68,14 @@ fn make(rt: &impl Abort, hart: &mut Hart, word: u32, value: u64) -> (Need, EndPa
                 &mut progress,
                 &layout,
                 BUDGET,
-                Reply::told(word as u64),
+                Reply::with_value(word as u64),
             );
             let needed = need(hart, &progress, &layout, BUDGET);
             match needed {
                 Need::Finish(_) => (needed, finish(hart, progress, &layout, BUDGET)),
                 Need::Ask(access, _) => {
                     assert_form(rt, &access, value);
-                    give(hart, &mut progress, &layout, BUDGET, Reply::told(value));
+                    give(hart, &mut progress, &layout, BUDGET, Reply::with_value(value));
                     match need(hart, &progress, &layout, BUDGET) {
                         Need::Finish(_) => (needed, finish(hart, progress, &layout, BUDGET)),
                         _ => rt.abort(),

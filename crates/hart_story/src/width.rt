@@ -1,21 +1,9 @@
-// Values and addresses by their width.
-ghost use Rattle.std.specs.Prelude.{◌≡◌, ◌*◌, ◌^◌, ◌<◌, ◌≤◌, ◌&&◌};
-ghost use Rattle.flex_base.specs.Word.{low, is_multiple, sign_extend};
-ghost use Rattle.flex_base.specs.Place.{in_ram};
+// Values by their width.
+ghost use Rattle.std.specs.Prelude.{◌≡◌, ◌*◌, ◌^◌, ◌<◌, ◌≤◌};
+ghost use Rattle.flex_base.specs.Word.{low, sign_extend};
 ghost use Rattle.flex_base.specs.Forms.{IsWidth};
 ghost use Rattle.flex_base.specs.Story.{extended};
 
-use flex_base::{Layout, Place};
-
-// Whether so many bytes lie aligned in RAM. Elsewhere the access is an exception, or a device's.
-pub(crate) fn is_reached(layout: &Layout, address: u64, width: u8) -> bool
-    requires { IsWidth width }
-    ensures { result ≡ (is_multiple address width && in_ram layout.now.ram address width) }
-{
-    address % width as u64 == 0 && matches!(layout.place(address, width), Place::Ram)
-}
-
-// The lowest bytes of a value.
 pub(crate) fn cut(width: u8, value: u64) -> u64
     requires { IsWidth width }
     ensures { result ≡ low (8 * width) value }
@@ -27,7 +15,6 @@ pub(crate) fn cut(width: u8, value: u64) -> u64
     }
 }
 
-// The lowest bits of a value.
 fn lowest(bits: u32, value: u64) -> u64
     requires { bits < 64 }
     ensures { result ≡ low bits value }

@@ -4,11 +4,12 @@ use Rattle.std.proofs.lemmas.Bool.Decides.{eqb_tells}
 use Rattle.std.proofs.lemmas.List.Sums.{fold_push}
 use Rattle.flex_base.specs.Place.{in_ram}
 use Rattle.flex_base.specs.Setup.{Setup}
-use Rattle.flex_base.specs.Forms.{IsPlaced, IsAlignedRam, IsWidth, IsAtomicWidth}
-use Rattle.flex_base.specs.FlatMemory.{Done, is_ram_access, left_by, image_byte, byte, reserved_by, value_at, flat, granule, is_reserved, reply_with}
+use Rattle.flex_base.specs.Forms.{IsPlaced, IsInRam, IsAlignedRam, IsWidth, IsAtomicWidth}
+use Rattle.flex_base.specs.FlatMemory.{Done, is_ram_access, left_by, image_byte, byte, reserved_by, value_at, flat, reservation_set, is_reserved, reply_with}
 use Rattle.flex_base.specs.declared.access.Access.{Access}
 use Rattle.flex_base.specs.declared.access.Access.TheVariants as acc
-use Rattle.mem_lines.specs.Bank.{Bank, IsIn, IsReplay, IsSame, held, bank_of, address_of}
+use Rattle.flex_base.proofs.Places.{in_ram-access}
+use Rattle.mem_lines.specs.Bank.{Bank, IsIn, IsReplay, IsSame, byte_held, bank_of, address_of}
 use Rattle.mem_lines.specs.Steps.{IsSpan, IsHere, Follows, reply_of}
 use Rattle.mem_lines.proofs.Dealing.{value_same, span_in}
 
@@ -31,39 +32,36 @@ width_of_atomic width one = elim (four_or_eight width one) [
 
 -- An access that is placed in the bank.
 
-span_here : (setup : Setup) (b : Bank) (address width : ℕ) → setup.ram ≡ b.ram → IsWidth width → IsAlignedRam setup address width → bank_of b.banks address ≡ b.bank → IsSpan b address width
-span_here setup b address width same one placed bank = record {
-  width_is = one;
-  aligned = placed.aligned;
-  inside = subst (λ n. in_ram n address width ≡ true) same placed.in_ram;
-  bank_is = bank;
-}
+pub access_here : (setup : Setup) (b : Bank) (access : Access) → is_ram_access access ≡ true → setup.ram ≡ b.ram
+    → IsPlaced setup.harts setup.ram access → bank_of b.banks (address_of access) ≡ b.bank → IsHere b access
+access_here setup b access ram same placed bank =
+    let In : ℕ → Type 0 = λ n. IsInRam n access in
+    (subst In same (in_ram-access setup.harts setup.ram access ram placed), bank)
 
-pub access_here : (setup : Setup) (b : Bank) (access : Access) → is_ram_access access ≡ true → setup.ram ≡ b.ram → IsPlaced setup access → bank_of b.banks (address_of access) ≡ b.bank → IsHere b access
-access_here setup b (acc.Fetch address) ram same placed bank = span_here setup b address 4 same refl placed bank
-access_here setup b (acc.Pte address) ram same placed bank = span_here setup b address 8 same refl placed bank
-access_here setup b (acc.Read address width) ram same placed bank = span_here setup b address width same placed.0 placed.1 bank
-access_here setup b (acc.Write address width value) ram same placed bank = span_here setup b address width same placed.0 placed.1 bank
-access_here setup b (acc.Lr address width) ram same placed bank = span_here setup b address width same (width_of_atomic width placed.0) placed.1 bank
-access_here setup b (acc.Sc address width value) ram same placed bank = span_here setup b address width same (width_of_atomic width placed.0) placed.1 bank
-access_here setup b (acc.Amo op address width value) ram same placed bank = (placed.0, span_here setup b address width same (width_of_atomic width placed.0) placed.1 bank)
-access_here setup b other ram same placed bank = absurd cc
+pub fixed_span : (b : Bank) (address width : ℕ) → IsWidth width → IsAlignedRam b.ram address width → bank_of b.banks address ≡ b.bank → IsSpan b address width
+fixed_span b address width one in_ram bank = record { width_is = one; in_ram = in_ram; bank_is = bank }
+
+pub atomic_span : (b : Bank) (address width : ℕ) → IsAtomicWidth width × IsAlignedRam b.ram address width → bank_of b.banks address ≡ b.bank → IsSpan b address width
+atomic_span b address width placed bank = fixed_span b address width (width_of_atomic width placed.0) placed.1 bank
 
 -- What the bank replies is what flat memory replies.
 
 read_flat : (setup : Setup) (b : Bank) (made : List Done) (address width : ℕ) → IsSpan b address width → IsReplay setup made b
-    → reply_with (value_at (held b) address width) ≡ reply_with (value_at (byte setup.image made) address width)
-read_flat setup b made address width span replay = ap reply_with (value_same (held b) (byte setup.image made) address address width (λ j below. replay.each (address + j) (span_in b address width j span below)))
+    → reply_with (value_at (byte_held b) address width) ≡ reply_with (value_at (byte setup.image made) address width)
+read_flat setup b made address width span replay = ap reply_with (value_same (byte_held b) (byte setup.image made) address address width (λ j below. replay.each (address + j) (span_in b address width j span below)))
 
 pub reply_flat : (setup : Setup) (b : Bank) (made : List Done) (hart : ℕ) (access : Access) → hart < 32 → IsHere b access → IsReplay setup made b → reply_of b hart access ≡ flat setup.image made hart access
-reply_flat setup b made hart (acc.Fetch address) below here replay = read_flat setup b made address 4 here replay
-reply_flat setup b made hart (acc.Pte address) below here replay = read_flat setup b made address 8 here replay
-reply_flat setup b made hart (acc.Read address width) below here replay = read_flat setup b made address width here replay
+reply_flat setup b made hart (acc.Fetch address) below here replay = read_flat setup b made address 4 (fixed_span b address 4 refl here.0 here.1) replay
+reply_flat setup b made hart (acc.Pte address) below here replay = read_flat setup b made address 8 (fixed_span b address 8 refl here.0 here.1) replay
+reply_flat setup b made hart (acc.Read address width) below here replay =
+    read_flat setup b made address width (fixed_span b address width here.0.0 here.0.1 here.1) replay
 reply_flat setup b made hart (acc.Write address width value) below here replay = refl
-reply_flat setup b made hart (acc.Lr address width) below here replay = read_flat setup b made address width here replay
-reply_flat setup b made hart (acc.Sc address width value) below here replay = ap (λ place. reply_with (if is_reserved place (granule address) then 0 else 1)) (replay.reservations hart below)
-reply_flat setup b made hart (acc.Amo op address width value) below here replay = read_flat setup b made address width here.1 replay
-reply_flat setup b made hart other below here replay = absurd here
+reply_flat setup b made hart (acc.Lr address width) below here replay =
+    read_flat setup b made address width (atomic_span b address width here.0 here.1) replay
+reply_flat setup b made hart (acc.Sc address width value) below here replay = ap (λ place. reply_with (if is_reserved place (reservation_set address) then 0 else 1)) (replay.reservations hart below)
+reply_flat setup b made hart (acc.Amo op address width value) below here replay =
+    read_flat setup b made address width (atomic_span b address width here.0 here.1) replay
+reply_flat setup b made hart other below here replay = absurd here.0
 
 -- The replay goes on.
 

@@ -27,16 +27,16 @@ abbrev pub bank_of : ℕ → ℕ → ℕ
 bank_of banks address = (address / 64) % banks
 
 -- where the bank of an address holds its byte
-unfoldable pub spot : ℕ → ℕ → ℕ
-spot banks address = ((address - ram_base) / 64) / banks * 64 + (address - ram_base) % 64
+unfoldable pub offset : ℕ → ℕ → ℕ
+offset banks address = ((address - ram_base) / 64) / banks * 64 + (address - ram_base) % 64
 
 -- the byte that a bank holds for an address
-abbrev pub held : Bank → ℕ → ℕ
-held b address = slice_index b.bytes (spot b.banks address)
+abbrev pub byte_held : Bank → ℕ → ℕ
+byte_held b address = slice_index b.bytes (offset b.banks address)
 
 -- the aligned 8 bytes that a hart has reserved
-abbrev pub reserved : Bank → ℕ → Option ℕ
-reserved b hart = slice_index_or b.places hart None
+abbrev pub reservation_at : Bank → ℕ → Option ℕ
+reservation_at b hart = slice_index_or b.places hart None
 
 -- 1 where there is one
 abbrev pub one_where_some : Option ℕ → ℕ
@@ -57,8 +57,8 @@ pub record IsIn (b : Bank) (address : ℕ) : Type 0 where
 -- each byte of the bank, and the reservation of each hart, are as these accesses left them
 pub record IsReplay (setup : Setup) (made : List Done) (b : Bank) : Type 0 where
   pub ram : b.ram ≡ setup.ram
-  pub each : (address : ℕ) → IsIn b address → held b address ≡ byte setup.image made address
-  pub reservations : (hart : ℕ) → hart < 32 → reserved b hart ≡ reservation_of made hart
+  pub each : (address : ℕ) → IsIn b address → byte_held b address ≡ byte setup.image made address
+  pub reservations : (hart : ℕ) → hart < 32 → reservation_at b hart ≡ reservation_of made hart
 
 -- these are the size of RAM, the number of banks and the number of the bank
 pub record IsBank (ram banks bank : ℕ) (b : Bank) : Type 0 where
@@ -94,5 +94,5 @@ pub record IsKept (ram banks bank : ℕ) (bytes : List ℕ) : Type 0 where
   pub below : bank < banks
 
 -- what a part of the image leaves of the byte at an address
-abbrev pub laid : ℕ → ℕ → ℕ × List ℕ → ℕ
-laid address old part = if covers part.0 (length part.1) address then slice_index part.1 (address - part.0) else old
+abbrev pub with_part : ℕ → ℕ → ℕ × List ℕ → ℕ
+with_part address old part = if covers part.0 (length part.1) address then slice_index part.1 (address - part.0) else old

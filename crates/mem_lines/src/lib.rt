@@ -7,7 +7,7 @@
 mod image_bytes;
 mod lines;
 mod little_endian;
+mod offsets;
 mod reservations;
-mod spots;
 
 pub use lines::Lines;

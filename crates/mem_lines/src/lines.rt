@@ -1,20 +1,21 @@
-ghost use Rattle.std.specs.Prelude.{◌≡◌, ℕ, ◌+◌, ◌*◌, ◌^◌, ◌<◌, ◌≤◌, ◌⊎◌, true, ◌==◌, if◌then◌else◌, List, [], length, map, IfOk};
+ghost use Rattle.std.specs.Prelude.{◌≡◌, ℕ, ◌+◌, ◌*◌, ◌^◌, ◌<◌, ◌≤◌, ◌⊎◌, ◌↔◌, true, ◌==◌, if◌then◌else◌, List, [], length, map, IfOk};
 ghost use Rattle.std.specs.List.{range_with_len};
 ghost use Rattle.flex_base.specs.Limits.{is_lawful};
 ghost use Rattle.flex_base.specs.Loaded.{image_fits};
 ghost use Rattle.flex_base.specs.Place.{ram_base};
 ghost use Rattle.flex_base.specs.Setup.{Setup};
 ghost use Rattle.flex_base.specs.Forms.{HasForm};
-ghost use Rattle.flex_base.specs.Unsplit.{noted};
-ghost use Rattle.flex_base.specs.FlatMemory.{Done, byte, flat, value_at, put, broken, granule, is_reserved};
-ghost use Rattle.mem_lines.specs.Bank.{is_bank_count, spot, held, reserved, IsIn, IsReplay, IsBank, IsSame};
-ghost use Rattle.mem_lines.specs.Steps.{done, IsSpan, IsHere, Follows, reply_of};
+ghost use Rattle.flex_base.specs.Unsplit.{with_access};
+ghost use Rattle.flex_base.specs.FlatMemory.{Done, byte, flat, value_at, put, broken, reservation_set, is_reserved, stands};
+ghost use Rattle.flex_base.specs.Reservations.{IsStanding};
+ghost use Rattle.mem_lines.specs.Bank.{is_bank_count, offset, byte_held, reservation_at, IsIn, IsReplay, IsBank, IsSame};
+ghost use Rattle.mem_lines.specs.Steps.{done_of, IsSpan, IsHere, Follows, reply_of};
 
 use crate::image_bytes::bank_bytes;
 use crate::little_endian::{load, store};
 use crate::reservations::Reservations;
-use crate::spots::spot;
-use flex_base::{Access, AmoOp, HartId, Image, Reply, Settings, granule};
+use crate::offsets::offset;
+use flex_base::{Access, AmoOp, HartId, Image, Reply, Settings, reservation_set};
 use rv_alu::amo;
 use std::alloc::{AllocError, Global};
 use std::marker::Model;
@@ -38,7 +39,8 @@ impl Model for Lines {
 
     ghost Value = { Bank };
 
-    ghost view = { λ l. record { ram = l.ram; banks = l.banks; bank = l.bank; bytes = l.bytes.items; places = l.reservations } };
+    ghost view = { λ l. record {
+        ram = l.ram; banks = l.banks; bank = l.bank; bytes = l.bytes.items; places = l.reservations } };
 
     ghost invariant = { λ l. IsKept l.ram l.banks l.bank l.bytes.items };
 }
@@ -60,7 +62,8 @@ impl Lines {
         requires banks { is_bank_count banks ≡ true }
         requires bank { bank < banks }
         ensures bank { IfOk result (λ lines. IsBank settings.now.ram banks bank lines) }
-        ensures replay { IfOk result (λ lines. (setup : Setup) → setup.image ≡ image.now → setup.ram ≡ settings.now.ram → IsReplay setup [] lines) }
+        ensures replay { IfOk result (λ lines. (setup : Setup) → setup.image ≡ image.now → setup.ram ≡ settings.now.ram
+            → IsReplay setup [] lines) }
     {
         let ram = settings.ram;
         let bytes = bank_bytes(alloc, ram, banks, bank, &image.parts)?;
@@ -79,13 +82,19 @@ impl Lines {
     /// The reply tells what was read, and of an atomic operation what stood there before. A
     /// store-conditional writes where the reservation of its hart stands, and replies 0; else it
     /// replies 1 (Volume I, "Load-Reserved/Store-Conditional Instructions").
+    #[tactic(auto, using(flex_base::proofs::StandingReservations::stands_law))]
     pub fn act(&mut self, hart: HartId, acc: &Access) -> Reply
         requires hart { hart.0 < 32 }
         requires here { IsHere self.old acc.now }
-        ensures flat { (setup : Setup) (made : List Done) → IsReplay setup made self.old → result ≡ flat setup.image made hart.0 acc.now }
-        ensures replay { (setup : Setup) (made : List Done) → IsReplay setup made self.old → IsReplay setup (noted made hart.0 acc.now result) self.new }
+        ensures flat { (setup : Setup) (made : List Done) → IsReplay setup made self.old
+            → result ≡ flat setup.image made hart.0 acc.now }
+        ensures replay { (setup : Setup) (made : List Done) → IsReplay setup made self.old
+            → IsReplay setup (with_access made hart.0 acc.now result) self.new }
         ensures form { HasForm acc.now result }
         ensures same { IsSame self.old self.new }
+
+        // What it is that a reservation stands, in the manual's words.
+        ensures stands { (made : List Done) (h set : ℕ) → (stands made h set ≡ true) ↔ IsStanding made h set }
     {
         self.make(hart.0, acc)
     }
@@ -101,10 +110,11 @@ impl Lines {
     /// The byte at an address of this bank.
     pub fn byte(&self, address: u64) -> u8
         requires inside { IsIn self.now address }
-        ensures { (setup : Setup) (made : List Done) → IsReplay setup made self.now → result ≡ byte setup.image made address }
+        ensures { (setup : Setup) (made : List Done) → IsReplay setup made self.now
+            → result ≡ byte setup.image made address }
     {
         let bytes: &[u8] = &self.bytes;
-        bytes[spot(self.banks, address)]
+        bytes[offset(self.banks, address)]
     }
 
     /// The bytes of this bank, one line of 64 after another.
@@ -112,7 +122,8 @@ impl Lines {
     /// Where there is one bank, they are all bytes of RAM.
     pub fn bytes(&self) -> &[u8]
         ensures bytes { result.now ≡ self.now.bytes }
-        ensures whole { (setup : Setup) (made : List Done) → IsReplay setup made self.now → self.now.banks ≡ 1 → result.now ≡ map (λ i. byte setup.image made (ram_base + i)) (range_with_len 0 setup.ram) }
+        ensures whole { (setup : Setup) (made : List Done) → IsReplay setup made self.now → self.now.banks ≡ 1
+            → result.now ≡ map (λ i. byte setup.image made (ram_base + i)) (range_with_len 0 setup.ram) }
     {
         self.bytes.as_slice()
     }
@@ -120,17 +131,17 @@ impl Lines {
     // Where the bytes of an access begin.
     fn start(&self, address: u64, width: u8) -> usize
         requires span { IsSpan self.now address width }
-        ensures start { result ≡ spot self.now.banks address }
+        ensures start { result ≡ offset self.now.banks address }
         ensures within { result + width ≤ length self.now.bytes }
         ensures few { width ≤ 8 }
     {
-        spot(self.banks, address)
+        offset(self.banks, address)
     }
 
     // The little-endian value of so many bytes from the address up.
     fn value(&self, address: u64, width: u8) -> u64
         requires span { IsSpan self.now address width }
-        ensures value { result ≡ value_at (held self.now) address width }
+        ensures value { result ≡ value_at (byte_held self.now) address width }
         ensures fits { result < 2 ^ (8 * width) }
     {
         let start = self.start(address, width);
@@ -141,8 +152,9 @@ impl Lines {
     fn write(&mut self, hart: u8, address: u64, width: u8, value: u64)
         requires span { IsSpan self.old address width }
         ensures same { IsSame self.old self.new }
-        ensures each { (a : ℕ) → IsIn self.old a → held self.new a ≡ put a (held self.old a) address width value }
-        ensures reservations { (h : ℕ) → reserved self.new h ≡ broken h hart address (reserved self.old h) }
+        ensures each { (a : ℕ) → IsIn self.old a → byte_held self.new a
+            ≡ put a (byte_held self.old a) address width value }
+        ensures reservations { (h : ℕ) → reservation_at self.new h ≡ broken h hart address (reservation_at self.old h) }
     {
         let start = self.start(address, width);
         store(&mut self.bytes, start, width, value);
@@ -155,19 +167,19 @@ impl Lines {
         requires here { IsHere self.old acc.now }
         ensures reply { result ≡ reply_of self.old hart acc.now }
         ensures form { HasForm acc.now result }
-        ensures follows { Follows (done hart acc.now result) self.old self.new }
+        ensures follows { Follows (done_of hart acc.now result) self.old self.new }
     {
         match *acc {
-            Access::Fetch { address } => Reply::told(self.value(address, 4)),
-            Access::Pte { address } => Reply::told(self.value(address, 8)),
-            Access::Read { address, width } => Reply::told(self.value(address, width)),
+            Access::Fetch { address } => Reply::with_value(self.value(address, 4)),
+            Access::Pte { address } => Reply::with_value(self.value(address, 8)),
+            Access::Read { address, width } => Reply::with_value(self.value(address, width)),
             Access::Write {
                 address,
                 width,
                 value,
             } => {
                 self.write(hart, address, width, value);
-                Reply::told(0)
+                Reply::with_value(0)
             }
             Access::Lr { address, width } => self.load_reserved(hart, address, width),
             Access::Sc {
@@ -181,8 +193,8 @@ impl Lines {
                 width,
                 value,
             } => self.modify(hart, op, address, width, value),
-            Access::DevRead { .. } | Access::DevWrite { .. } | Access::Time => Reply::told(0),
-            Access::Pulse { .. } | Access::Wait { .. } | Access::Retire => Reply::told(0),
+            Access::DevRead { .. } | Access::DevWrite { .. } | Access::Time => Reply::with_value(0),
+            Access::Pulse { .. } | Access::Wait { .. } | Access::Retire => Reply::with_value(0),
         }
     }
 
@@ -191,11 +203,11 @@ impl Lines {
         requires span { IsSpan self.old address width }
         ensures reply { result ≡ reply_of self.old hart (Access.Lr address width) }
         ensures form { HasForm (Access.Lr address width) result }
-        ensures follows { Follows (done hart (Access.Lr address width) result) self.old self.new }
+        ensures follows { Follows (done_of hart (Access.Lr address width) result) self.old self.new }
     {
         let value = self.value(address, width);
-        self.reserve(hart, granule(address));
-        Reply::told(value)
+        self.reserve(hart, reservation_set(address));
+        Reply::with_value(value)
     }
 
     fn store_conditional(&mut self, hart: u8, address: u64, width: u8, value: u64) -> Reply
@@ -203,15 +215,15 @@ impl Lines {
         requires span { IsSpan self.old address width }
         ensures reply { result ≡ reply_of self.old hart (Access.Sc address width value) }
         ensures form { HasForm (Access.Sc address width value) result }
-        ensures follows { Follows (done hart (Access.Sc address width value) result) self.old self.new }
+        ensures follows { Follows (done_of hart (Access.Sc address width value) result) self.old self.new }
     {
         let reserved = self.has_reserved(hart, address);
         self.release(hart);
         if reserved {
             self.write(hart, address, width, value);
-            Reply::told(0)
+            Reply::with_value(0)
         } else {
-            Reply::told(1)
+            Reply::with_value(1)
         }
     }
 
@@ -221,29 +233,31 @@ impl Lines {
         requires span { IsSpan self.old address width }
         ensures reply { result ≡ reply_of self.old hart (Access.Amo op address width value) }
         ensures form { HasForm (Access.Amo op address width value) result }
-        ensures follows { Follows (done hart (Access.Amo op address width value) result) self.old self.new }
+        ensures follows { Follows (done_of hart (Access.Amo op address width value) result) self.old self.new }
     {
         let old = self.value(address, width);
         self.write(hart, address, width, amo(op, old, value, width));
-        Reply::told(old)
+        Reply::with_value(old)
     }
 
     // Sets what a hart has reserved.
-    fn reserve(&mut self, hart: u8, granule: u64)
+    fn reserve(&mut self, hart: u8, reservation_set: u64)
         requires hart { hart < 32 }
         ensures same { IsSame self.old self.new }
-        ensures each { (a : ℕ) → held self.new a ≡ held self.old a }
-        ensures reservations { (h : ℕ) → reserved self.new h ≡ (if h == hart then Some granule else reserved self.old h) }
+        ensures each { (a : ℕ) → byte_held self.new a ≡ byte_held self.old a }
+        ensures reservations { (h : ℕ) → reservation_at self.new h
+            ≡ (if h == hart then Some reservation_set else reservation_at self.old h) }
     {
-        self.reservations.reserve(hart, granule);
+        self.reservations.reserve(hart, reservation_set);
     }
 
     // Ends a hart's reservation.
     fn release(&mut self, hart: u8)
         requires hart { hart < 32 }
         ensures same { IsSame self.old self.new }
-        ensures each { (a : ℕ) → held self.new a ≡ held self.old a }
-        ensures reservations { (h : ℕ) → reserved self.new h ≡ (if h == hart then None else reserved self.old h) }
+        ensures each { (a : ℕ) → byte_held self.new a ≡ byte_held self.old a }
+        ensures reservations { (h : ℕ) → reservation_at self.new h
+            ≡ (if h == hart then None else reservation_at self.old h) }
     {
         self.reservations.release(hart);
     }
@@ -251,9 +265,9 @@ impl Lines {
     // Whether a hart's reservation of the 8 bytes of this address stands.
     fn has_reserved(&self, hart: u8, address: u64) -> bool
         requires hart { hart < 32 }
-        ensures { result ≡ is_reserved (reserved self.now hart) (granule address) }
+        ensures { result ≡ is_reserved (reservation_at self.now hart) (reservation_set address) }
     {
-        self.reservations.stands(hart, granule(address))
+        self.reservations.stands(hart, reservation_set(address))
     }
 }
 

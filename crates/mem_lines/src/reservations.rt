@@ -1,7 +1,7 @@
 ghost use Rattle.std.specs.Prelude.{◌≡◌, ℕ, ◌<◌, slice_index_or, if◌then◌else◌, ◌==◌, None, Some};
 ghost use Rattle.flex_base.specs.FlatMemory.{broken, is_reserved};
 
-use flex_base::{granule, is_reserved};
+use flex_base::{reservation_set, is_reserved};
 use std::marker::Model;
 
 // What each hart has reserved.
@@ -39,17 +39,18 @@ impl Reservations {
     }
 
     // Whether a hart has reserved these 8 bytes.
-    pub(crate) fn stands(&self, hart: u8, granule: u64) -> bool
+    pub(crate) fn stands(&self, hart: u8, reservation_set: u64) -> bool
         requires { hart < 32 }
-        ensures { result ≡ is_reserved (slice_index_or self.now hart None) granule }
+        ensures { result ≡ is_reserved (slice_index_or self.now hart None) reservation_set }
     {
-        is_reserved(self.places[hart as usize], granule)
+        is_reserved(self.places[hart as usize], reservation_set)
     }
 
     // A load-reserved by this hart: its earlier reservation is gone.
-    pub(crate) fn reserve(&mut self, hart: u8, granule: u64)
+    pub(crate) fn reserve(&mut self, hart: u8, reservation_set: u64)
         requires { hart < 32 }
-        ensures { (h : ℕ) → slice_index_or self.new h None ≡ (if h == hart then Some granule else slice_index_or self.old h None) }
+        ensures { (h : ℕ) → slice_index_or self.new h None
+            ≡ (if h == hart then Some reservation_set else slice_index_or self.old h None) }
     {
         if self.places[hart as usize].is_none() {
             self.standing += 1;
@@ -57,12 +58,13 @@ impl Reservations {
         if self.harts <= hart {
             self.harts = hart + 1;
         }
-        self.places[hart as usize] = Some(granule);
+        self.places[hart as usize] = Some(reservation_set);
     }
 
     pub(crate) fn release(&mut self, hart: u8)
         requires { hart < 32 }
-        ensures { (h : ℕ) → slice_index_or self.new h None ≡ (if h == hart then None else slice_index_or self.old h None) }
+        ensures { (h : ℕ) → slice_index_or self.new h None
+            ≡ (if h == hart then None else slice_index_or self.old h None) }
     {
         if self.places[hart as usize].is_some() {
             self.standing -= 1;
@@ -72,13 +74,14 @@ impl Reservations {
 
     // Ends the reservations that a write by this hart ends, which are those of the other harts.
     pub(crate) fn end_others(&mut self, by: u8, address: u64)
-        ensures { (hart : ℕ) → slice_index_or self.new hart None ≡ broken hart by address (slice_index_or self.old hart None) }
+        ensures { (hart : ℕ) → slice_index_or self.new hart None
+            ≡ broken hart by address (slice_index_or self.old hart None) }
     {
         if self.standing == 0 {
             return;
         }
         for hart in 0..self.harts {
-            if hart != by && self.stands(hart, granule(address)) {
+            if hart != by && self.stands(hart, reservation_set(address)) {
                 self.release(hart);
             }
         }

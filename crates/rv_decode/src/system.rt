@@ -44,7 +44,8 @@ fn decode_privileged(word: u32) -> Op
 fn decode_sfence_vma(word: u32) -> Op
     requires opcode { field 0 7 word ≡ 0x73 }
     requires funct3 { field 12 3 word ≡ 0 }
-    requires whole { (word ≢ 0x00000073) × (word ≢ 0x00100073) × (word ≢ 0x10200073) × (word ≢ 0x30200073) × (word ≢ 0x10500073) }
+    requires whole { (word ≢ 0x00000073) × (word ≢ 0x00100073) × (word ≢ 0x10200073) × (word ≢ 0x30200073)
+        × (word ≢ 0x10500073) }
     ensures { result ≡ decoded word }
 {
     match funct7(word) {

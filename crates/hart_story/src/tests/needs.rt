@@ -193,7 +193,7 @@ fn retire(rt: &impl Abort, hart: &Hart, budget: u64) -> Progress {
     let mut progress = Progress::begin();
     match need(hart, &progress, &layout, budget) {
         Need::Ask(Access::Retire, Class::Pulse) => {
-            give(hart, &mut progress, &layout, budget, Reply::told(0));
+            give(hart, &mut progress, &layout, budget, Reply::with_value(0));
             progress
         }
         _ => rt.abort(),

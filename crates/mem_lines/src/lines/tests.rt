@@ -1,5 +1,5 @@
 ghost use Rattle.std.specs.Prelude.{◌≡◌, ◌^◌, ◌<◌, true};
-ghost use Rattle.flex_base.specs.Forms.{IsWidth};
+ghost use Rattle.flex_base.specs.Forms.{IsWidth, IsAtomicWidth};
 ghost use Rattle.flex_base.specs.Place.{in_ram};
 ghost use Rattle.flex_base.specs.Word.{is_multiple};
 ghost use Rattle.mem_lines.specs.Steps.{IsSpan, IsHere};
@@ -52,13 +52,18 @@ fn is_here(lines: &Lines, acc: &Access) -> bool
         Access::Pte { address } => is_span(lines, address, 8),
         Access::Read { address, width } => is_span(lines, address, width),
         Access::Write { address, width, .. } => is_span(lines, address, width),
-        Access::Lr { address, width } => is_span(lines, address, width),
-        Access::Sc { address, width, .. } => is_span(lines, address, width),
-        Access::Amo { address, width, .. } => {
-            (width == 4 || width == 8) && is_span(lines, address, width)
-        }
+        Access::Lr { address, width } => is_wide_span(lines, address, width),
+        Access::Sc { address, width, .. } => is_wide_span(lines, address, width),
+        Access::Amo { address, width, .. } => is_wide_span(lines, address, width),
         _ => false,
     }
+}
+
+fn is_wide_span(lines: &Lines, address: u64, width: u8) -> bool
+    ensures width { result ≡ true → IsAtomicWidth width }
+    ensures span { result ≡ true → IsSpan lines.now address width }
+{
+    (width == 4 || width == 8) && is_span(lines, address, width)
 }
 
 fn is_span(lines: &Lines, address: u64, width: u8) -> bool

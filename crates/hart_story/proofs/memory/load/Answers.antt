@@ -1,5 +1,7 @@
--- A load's exceptions are cause 4, a misaligned address, and cause 5, an access fault.
+-- The exceptions of a load.
+use Rattle.flex_base.specs.Causes.{load_address_misaligned, load_access_fault}
 use Rattle.hart_story.proofs.memory.load.Goals as goal
 
 pub returns-clause-works : goal.returns-clause-works
-returns-clause-works c = λ setup most a of. c.where_reached.ensures.reaches setup most a 4 5 of
+returns-clause-works c = λ hart setup budget a of shown.
+    c.where_in_ram.ensures.reaches setup budget a load_address_misaligned load_access_fault of

@@ -6,22 +6,22 @@ use Rattle.flex_base.specs.Story.{works, loads, stores, loads_reserved, stores_c
 use Rattle.hart_story.proofs.work.work.Goals as goal
 
 pub returns-in-Lui-clause-sound : goal.returns-in-Lui-clause-sound
-returns-in-Lui-clause-sound c = c.computed.ensures.sound c.args.layout.now
+returns-in-Lui-clause-sound c = c.end_with.ensures.sound c.args.layout.now
 
 pub returns-in-Auipc-clause-sound : goal.returns-in-Auipc-clause-sound
-returns-in-Auipc-clause-sound c = c.computed-in-Auipc.ensures.sound c.args.layout.now
+returns-in-Auipc-clause-sound c = c.end_with-in-Auipc.ensures.sound c.args.layout.now
 
 pub returns-in-AluImm-clause-sound : goal.returns-in-AluImm-clause-sound
-returns-in-AluImm-clause-sound c = c.computed-in-AluImm.ensures.sound c.args.layout.now
+returns-in-AluImm-clause-sound c = c.end_with-in-AluImm.ensures.sound c.args.layout.now
 
 pub returns-in-AluReg-clause-sound : goal.returns-in-AluReg-clause-sound
-returns-in-AluReg-clause-sound c = c.computed-in-AluReg.ensures.sound c.args.layout.now
+returns-in-AluReg-clause-sound c = c.end_with-in-AluReg.ensures.sound c.args.layout.now
 
 pub returns-in-Muldiv-clause-sound : goal.returns-in-Muldiv-clause-sound
-returns-in-Muldiv-clause-sound c = c.computed-in-Muldiv.ensures.sound c.args.layout.now
+returns-in-Muldiv-clause-sound c = c.end_with-in-Muldiv.ensures.sound c.args.layout.now
 
 pub returns-in-Fence-clause-sound : goal.returns-in-Fence-clause-sound
-returns-in-Fence-clause-sound c = c.passed.ensures.sound c.args.layout.now
+returns-in-Fence-clause-sound c = c.end_without.ensures.sound c.args.layout.now
 
 pub returns-in-Jal-clause-sound : goal.returns-in-Jal-clause-sound
 returns-in-Jal-clause-sound c = c.jump.ensures.sound c.args.layout.now
@@ -45,36 +45,36 @@ pub returns-in-Amo-clause-sound : goal.returns-in-Amo-clause-sound
 returns-in-Amo-clause-sound c = c.modify.ensures.sound c.args.hart.now
 
 pub returns-in-Load-clause-works : goal.returns-in-Load-clause-works
-returns-in-Load-clause-works c = λ setup most a of shown.
+returns-in-Load-clause-works c = λ setup budget a of shown.
     let address = ap (λ (x : ℕ). wrap (x + c.in-Load.imm)) (c.read-in-Load.ensures a shown) in
     ap (works setup a) (sym c.in-Load.ensures.meaning)
     ∙ ap (loads setup a c.in-Load.width c.in-Load.signed c.in-Load.rd) (sym address)
-    ∙ c.load.ensures.works setup most a of
+    ∙ c.load.ensures.works c.args.hart.now setup budget a of shown
 
 pub returns-in-Store-clause-works : goal.returns-in-Store-clause-works
-returns-in-Store-clause-works c = λ setup most a of shown.
+returns-in-Store-clause-works c = λ setup budget a of shown.
     let address = ap (λ (x : ℕ). wrap (x + c.in-Store.imm)) (c.read-in-Store.ensures a shown) in
     ap (works setup a) (sym c.in-Store.ensures.meaning)
-    ∙ ap (λ (x : ℕ). stores setup a c.in-Store.width x (reg a c.in-Store.rs2)) (sym address)
+    ∙ ap (λ (x : ℕ). stores setup a c.in-Store.width x (reg a.x c.in-Store.rs2)) (sym address)
     ∙ ap (stores setup a c.in-Store.width (wrap (c.read-in-Store.result + c.in-Store.imm))) (sym (c.read-in-Store-2.ensures a shown))
-    ∙ c.store.ensures.works setup most a of
+    ∙ c.store.ensures.works c.args.hart.now setup budget a of shown
 
 pub returns-in-Lr-clause-works : goal.returns-in-Lr-clause-works
-returns-in-Lr-clause-works c = λ setup most a of shown.
+returns-in-Lr-clause-works c = λ setup budget a of shown.
     ap (works setup a) (sym c.in-Lr.ensures.meaning)
     ∙ ap (loads_reserved setup a c.in-Lr.width c.in-Lr.rd) (sym (c.read-in-Lr.ensures a shown))
-    ∙ c.load_reserved.ensures.works setup most a of
+    ∙ c.load_reserved.ensures.works c.args.hart.now setup budget a of shown
 
 pub returns-in-Sc-clause-works : goal.returns-in-Sc-clause-works
-returns-in-Sc-clause-works c = λ setup most a of shown.
+returns-in-Sc-clause-works c = λ setup budget a of shown.
     ap (works setup a) (sym c.in-Sc.ensures.meaning)
-    ∙ ap (λ (x : ℕ). stores_conditional setup a c.in-Sc.width c.in-Sc.rd x (reg a c.in-Sc.rs2)) (sym (c.read-in-Sc.ensures a shown))
+    ∙ ap (λ (x : ℕ). stores_conditional setup a c.in-Sc.width c.in-Sc.rd x (reg a.x c.in-Sc.rs2)) (sym (c.read-in-Sc.ensures a shown))
     ∙ ap (stores_conditional setup a c.in-Sc.width c.in-Sc.rd c.read-in-Sc.result) (sym (c.read-in-Sc-2.ensures a shown))
-    ∙ c.store_conditional.ensures.works setup most a of shown
+    ∙ c.store_conditional.ensures.works setup budget a of shown
 
 pub returns-in-Amo-clause-works : goal.returns-in-Amo-clause-works
-returns-in-Amo-clause-works c = λ setup most a of shown.
+returns-in-Amo-clause-works c = λ setup budget a of shown.
     ap (works setup a) (sym c.in-Amo.ensures.meaning)
-    ∙ ap (λ (x : ℕ). modifies setup a c.in-Amo.op c.in-Amo.width c.in-Amo.rd x (reg a c.in-Amo.rs2)) (sym (c.read-in-Amo.ensures a shown))
+    ∙ ap (λ (x : ℕ). modifies setup a c.in-Amo.op c.in-Amo.width c.in-Amo.rd x (reg a.x c.in-Amo.rs2)) (sym (c.read-in-Amo.ensures a shown))
     ∙ ap (modifies setup a c.in-Amo.op c.in-Amo.width c.in-Amo.rd c.read-in-Amo.result) (sym (c.read-in-Amo-2.ensures a shown))
-    ∙ c.modify.ensures.works setup most a of
+    ∙ c.modify.ensures.works c.args.hart.now setup budget a of shown

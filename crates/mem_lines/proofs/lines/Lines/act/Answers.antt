@@ -1,5 +1,5 @@
 use Rattle.std.proofs.Common.{◌∙◌}
-use Rattle.mem_lines.specs.Steps.{done}
+use Rattle.mem_lines.specs.Steps.{done_of}
 use Rattle.mem_lines.proofs.Replays.{reply_flat, replay_push}
 use Rattle.mem_lines.proofs.lines.Lines.act.Goals as goal
 
@@ -9,4 +9,4 @@ returns-clause-flat c = λ setup made replay.
 
 pub returns-clause-replay : goal.returns-clause-replay
 returns-clause-replay c = λ setup made replay.
-    replay_push setup c.args.self.now c.make.new.self made (done c.args.hart.0 c.args.acc.now c.make.result) c.make.ensures.follows replay
+    replay_push setup c.args.self.now c.make.new.self made (done_of c.args.hart.0 c.args.acc.now c.make.result) c.make.ensures.follows replay

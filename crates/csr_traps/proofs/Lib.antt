@@ -1,0 +1,10 @@
+mod Bits
+mod Fields
+mod Rows
+mod Taking
+mod Laws
+mod ReadBack
+mod Views
+mod Within
+mod Fitting
+mod Writing

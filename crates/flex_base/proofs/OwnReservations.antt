@@ -1,0 +1,265 @@
+-- A store-conditional is asked only after a load-reserved of the same 8 bytes, whatever the order of the harts.
+use Rattle.std.proofs.Common.{◌≡◌, ◌≢◌, ℕ, ◌+◌, ◌<◌, Bool, true, false, if◌then◌else◌, nat_lt, List, [], ◌∷◌, ◌++◌, ◌==◌, fold, length, Option, None, Some, inl, inr, refl, ap, sym, subst, ◌∙◌, arith, eq-eqb}
+use Rattle.std.proofs.lemmas.Bool.{cases_eq, ne_eqb}
+use Rattle.std.proofs.lemmas.Bool.Decides.{nat_tests}
+use Rattle.std.proofs.lemmas.List.Sums.{fold_push}
+use Rattle.flex_base.specs.Causes.{instruction_access_fault, load_address_misaligned, load_access_fault, store_address_misaligned, store_access_fault}
+use Rattle.flex_base.specs.Setup.{Setup}
+use Rattle.flex_base.specs.State.{State, reg, start}
+use Rattle.flex_base.specs.Place.{in_ram, place_of}
+use Rattle.flex_base.specs.Word.{wrap, is_multiple}
+use Rattle.flex_base.specs.Decoding.{decoded}
+use Rattle.flex_base.specs.FlatMemory.{Done, reservation_set, is_reserved, is_ram_access}
+use Rattle.flex_base.specs.Story.{Want, Asks, Ends, IsOver, IsLater, Story, Says, Closes, StaysOver, ComesLater, story, pulses, after_pulse, fetches, works, jumps, branches, is_taken, traps, at_place, reaches, reaches_ram, is_tick, goes, want, concludes}
+use Rattle.flex_base.specs.Unsplit.{Machine, story_of, want_of, reply_to, begin, make, step, reach, reach_from, with_access}
+use Rattle.flex_base.specs.Reservations.{reserving, own_after, own_reservation, IsOwn, accesses_in, AsksReserved}
+use Rattle.flex_base.specs.declared.access.Access.{Access}
+use Rattle.flex_base.specs.declared.access.Access.TheVariants as acc
+use Rattle.flex_base.specs.declared.access.Reply.{Reply}
+use Rattle.flex_base.specs.declared.event.EndPart.{EndPart}
+use Rattle.flex_base.specs.declared.operation.Op.{Op}
+use Rattle.flex_base.specs.declared.operation.Op.TheVariants as op
+use Rattle.flex_base.specs.declared.settings.Place.{Place}
+use Rattle.flex_base.specs.declared.settings.Place.TheVariants as place
+use Rattle.flex_base.proofs.Machines.{instruction_at-begin, reach-cons, reach-none, step_is, instruction_after_end, instruction_at-other, story_after_access, length-step, place_in}
+use Rattle.flex_base.proofs.Standing.{AllStand, all_step, all_begin}
+use Rattle.flex_base.proofs.Stories.{retires, goes_on}
+
+-- The story of an instruction.
+
+abbrev pub AsksFrom : Option ℕ → Access → Type 0
+AsksFrom own (acc.Sc address width value) = own ≡ Some (reservation_set address)
+AsksFrom own other = Unit {0}
+
+-- from here on a store-conditional is asked only within the hart's own reservation, which is this one so far, and an end
+-- leaves no other one
+abbrev pub Reserves : Option ℕ → Story → Type 0
+Reserves own (Says access next) = AsksFrom own access × ((reply : Reply) → Reserves (reserving own access) (next reply))
+Reserves own (Closes part after) = IsOwn own after.reservation
+Reserves own StaysOver = Unit {0}
+Reserves own ComesLater = Unit {0}
+
+either : (own : Option ℕ) (b : Bool) (s t : Story) → Reserves own s → Reserves own t → Reserves own (if b then s else t)
+either own true s t first second = first
+either own false s t first second = second
+
+at_place_reserves : (own : Option ℕ) (p : Place) (access fault : Story) → Reserves own access → Reserves own fault
+    → Reserves own (at_place p access fault)
+at_place_reserves own place.Ram access fault first second = first
+at_place_reserves own place.Device access fault first second = tt
+at_place_reserves own place.Nowhere access fault first second = second
+
+-- no reservation is anybody's
+none_own : (own : Option ℕ) → IsOwn own None
+none_own own = λ set e. absurd cc
+
+-- what is reserved is the set
+reserved_is : (own : Option ℕ) (set : ℕ) → is_reserved own set ≡ true → own ≡ Some set
+reserved_is None set e = absurd cc
+reserved_is (Some other) set e = let same : other ≡ set = grind (arith, nat_tests, e) in ap Some same
+
+module _ (setup : Setup) (own : Option ℕ) (a : State) (held : IsOwn own a.reservation) where
+  reaches_reserves : (address width misaligned fault : ℕ) (access : Story) → Reserves own access
+      → Reserves own (reaches setup a address width misaligned fault access)
+  reaches_reserves address width misaligned fault access reserves =
+      either own (is_multiple address width) _ _
+      (at_place_reserves own (place_of setup.harts setup.ram address width) access (traps a fault address) reserves tt) tt
+
+  reaches_ram_reserves : (address width misaligned fault : ℕ) (access : Story) → Reserves own access
+      → Reserves own (reaches_ram setup a address width misaligned fault access)
+  reaches_ram_reserves address width misaligned fault access reserves =
+      either own (is_multiple address width) _ _
+      (either own (in_ram setup.ram address width) access (traps a fault address) reserves tt) tt
+
+  jumps_reserves : (target rd : ℕ) → Reserves own (jumps a target rd)
+  jumps_reserves target rd = either own (is_multiple target 4) _ _ held tt
+
+  branches_reserves : (taken : Bool) (target : ℕ) → Reserves own (branches a taken target)
+  branches_reserves taken target = either own taken _ _ (jumps_reserves target 0) held
+
+  conditional : (rd address width value : ℕ) (b : Bool) → is_reserved a.reservation (reservation_set address) ≡ b
+      → Reserves own (if b then Says (acc.Sc address width value) (λ reply. concludes a rd reply.value) else concludes a rd 1)
+  conditional rd address width value true e =
+      (held (reservation_set address) (reserved_is a.reservation (reservation_set address) e), λ reply. none_own _)
+  conditional rd address width value false e = none_own own
+
+  works_reserves : (o : Op) → Reserves own (works setup a o)
+  works_reserves (op.Lui rd imm) = held
+  works_reserves (op.Auipc rd imm) = held
+  works_reserves (op.AluImm does rd rs1 imm) = held
+  works_reserves (op.AluReg does rd rs1 rs2) = held
+  works_reserves (op.Muldiv does rd rs1 rs2) = held
+  works_reserves (op.Jal rd imm) = jumps_reserves _ rd
+  works_reserves (op.Jalr rd rs1 imm) = jumps_reserves _ rd
+  works_reserves (op.Branch compares rs1 rs2 imm) =
+      branches_reserves (is_taken compares (reg a.x rs1) (reg a.x rs2)) (wrap (a.pc + imm))
+  works_reserves (op.Load width signed rd rs1 imm) =
+      reaches_reserves _ width load_address_misaligned load_access_fault _ (tt, λ reply. held)
+  works_reserves (op.Store width rs1 rs2 imm) =
+      reaches_reserves _ width store_address_misaligned store_access_fault _ (tt, λ reply. held)
+  works_reserves (op.Lr width rd rs1 aq rl) =
+      reaches_ram_reserves _ width load_address_misaligned load_access_fault _
+      (tt, λ reply set e. e)
+  works_reserves (op.Sc width rd rs1 rs2 aq rl) =
+      reaches_ram_reserves _ width store_address_misaligned store_access_fault _
+      (conditional rd (reg a.x rs1) width _ (is_reserved a.reservation (reservation_set (reg a.x rs1))) refl)
+  works_reserves (op.Amo does width rd rs1 rs2 aq rl) =
+      reaches_ram_reserves _ width store_address_misaligned store_access_fault _ (tt, λ reply. held)
+  works_reserves (op.Fence free) = held
+  works_reserves (op.FenceI free) = held
+  works_reserves other = tt
+
+  fetches_reserves : Reserves own (fetches setup a)
+  fetches_reserves =
+      either own (in_ram setup.ram a.pc 4) (goes_on setup a) (traps a instruction_access_fault a.pc)
+      (tt, λ reply. works_reserves (decoded reply.value)) tt
+
+pulses_reserves : (setup : Setup) (own : Option ℕ) (a : State) → IsOwn own a.reservation → Reserves own (pulses setup a)
+pulses_reserves setup own a held =
+    either own a.due (Says (acc.Pulse (is_tick a)) (after_pulse setup a)) (fetches setup a)
+    (tt, λ reply. either own reply.stop StaysOver _ tt (fetches_reserves setup own (record a { lines = reply.lines }) held))
+    (fetches_reserves setup own a held)
+
+pub story_reserves : (setup : Setup) (own : Option ℕ) (a : State) → IsOwn own a.reservation → Reserves own (story setup a)
+story_reserves setup own a held =
+    either own (a.ends == setup.budget) retires (pulses setup a) (tt, λ reply. tt) (pulses_reserves setup own a held)
+
+-- at the end of an instruction the hart's reservation is what its own accesses lead to, or none
+pub ends_own : (own : Option ℕ) (s : Story) (replies : List Reply) (part : EndPart) (after : State) → Reserves own s
+    → want (goes s replies) ≡ Ends part after → IsOwn (fold reserving own (accesses_in s replies)) after.reservation
+ends_own own (Says access next) [] part after reserves ends = absurd cc
+ends_own own (Says access next) (reply ∷ replies) part after reserves ends =
+    ends_own (reserving own access) (next reply) replies part after (reserves.1 reply) ends
+ends_own own (Closes made left) [] part after reserves ends =
+    let same : left ≡ after = cc in
+    let At : State → Type 0 = λ a. IsOwn own a.reservation in
+    subst At same reserves
+ends_own own (Closes made left) (reply ∷ replies) part after reserves ends =
+    let same : left ≡ after = cc in
+    let At : State → Type 0 = λ a. IsOwn own a.reservation in
+    subst At same reserves
+ends_own own StaysOver [] part after reserves ends = absurd cc
+ends_own own StaysOver (reply ∷ replies) part after reserves ends = absurd cc
+ends_own own ComesLater [] part after reserves ends = absurd cc
+ends_own own ComesLater (reply ∷ replies) part after reserves ends = absurd cc
+
+-- All harts, along an order.
+
+-- each hart is where its own reservation leads
+abbrev AllReserve : Setup → Machine → Type 0
+AllReserve setup u = (h : ℕ) → h < setup.harts → Reserves (own_reservation u.ram h) (story_of setup u h)
+
+own_push : (made : List Done) (h k : ℕ) (access : Access) (reply : Reply)
+    → own_reservation (with_access made k access reply) h ≡ own_after h (own_reservation made h) k access
+own_push made h k access reply = fold_push (λ old (d : Done). own_after h old d.hart d.access) None made _
+
+own_same : (h : ℕ) (own : Option ℕ) (access : Access) → own_after h own h access ≡ reserving own access
+own_same h own access = ap (λ b. if b then reserving own access else own) (eq-eqb h h refl)
+
+-- another hart's access, and one of no RAM, leave it
+own_other : (h k : ℕ) (own : Option ℕ) (access : Access) → h ≢ k → own_after h own k access ≡ own
+own_other h k own access other = ap (λ b. if b then reserving own access else own) (ne_eqb h k other)
+
+no_ram : (own : Option ℕ) (access : Access) → is_ram_access access ≡ false → reserving own access ≡ own
+no_ram own (acc.Lr address width) e = absurd cc
+no_ram own (acc.Sc address width value) e = absurd cc
+no_ram own other e = refl
+
+own_elsewhere : (h k : ℕ) (own : Option ℕ) (access : Access) → is_ram_access access ≡ false → own_after h own k access ≡ own
+own_elsewhere h k own access e = elim (h == k) as (λ b. (if b then reserving own access else own) ≡ own)
+    [ true ↦ no_ram own access e | false ↦ refl ]
+
+own_made : (made : List Done) (h k : ℕ) (access : Access) (reply : Reply) (b : Bool) → is_ram_access access ≡ b
+    → own_reservation (if b then with_access made k access reply else made) h ≡ own_after h (own_reservation made h) k access
+own_made made h k access reply true e = own_push made h k access reply
+own_made made h k access reply false e = sym (own_elsewhere h k (own_reservation made h) access e)
+
+-- a step of another hart
+other_ram : (setup : Setup) (u : Machine) (h k : ℕ) (w : Want) → h ≢ k → own_reservation (make setup u k w).ram h ≡ own_reservation u.ram h
+other_ram setup u h k (Asks access) other =
+    own_made u.ram h k access (reply_to setup u k access) (is_ram_access access) refl ∙ own_other h k (own_reservation u.ram h) access other
+other_ram setup u h k (Ends part after) other = refl
+other_ram setup u h k IsOver other = refl
+other_ram setup u h k IsLater other = refl
+
+other_step : (setup : Setup) (u : Machine) (h k : ℕ) → h ≢ k → own_reservation (step setup u k).ram h ≡ own_reservation u.ram h
+other_step setup u h k other =
+    elim (nat_lt k setup.harts) as (λ b. own_reservation (if b then make setup u k (want_of setup u k) else u).ram h ≡ own_reservation u.ram h)
+    [ true ↦ other_ram setup u h k (want_of setup u k) other | false ↦ refl ]
+
+-- where a hart is, by its own reservation and its story
+reserves_at : (setup : Setup) (u : Machine) (h : ℕ) (own : Option ℕ) (s : Story) → own_reservation u.ram h ≡ own → story_of setup u h ≡ s
+    → Reserves own s → Reserves (own_reservation u.ram h) (story_of setup u h)
+reserves_at setup u h own s same is reserves =
+    let By : Option ℕ → Type 0 = λ o. Reserves o s in
+    let In : Story → Type 0 = λ t. Reserves (own_reservation u.ram h) t in
+    subst In (sym is) (subst By (sym same) reserves)
+
+-- the hart's own step
+own_step : (setup : Setup) (u : Machine) (h : ℕ) (s : Story) → h < setup.harts → h < length u.harts → story_of setup u h ≡ s
+    → Reserves (own_reservation u.ram h) s → Reserves (own_reservation (step setup u h).ram h) (story_of setup (step setup u h) h)
+own_step setup u h (Says access next) below within says reserves =
+    let reply = reply_to setup u h access in
+    let own = own_reservation u.ram h in
+    reserves_at setup (step setup u h) h (reserving own access) (next reply)
+    (ap (λ (m : Machine). own_reservation m.ram h) (step_is setup u h (Asks access) below (ap want says))
+    ∙ (own_made u.ram h h access reply (is_ram_access access) refl ∙ own_same h own access))
+    (story_after_access setup u h access next below within says)
+    (reserves.1 reply)
+own_step setup u h (Closes part after) below within closes reserves =
+    let own = own_reservation u.ram h in
+    reserves_at setup (step setup u h) h own (story setup after)
+    (ap (λ (m : Machine). own_reservation m.ram h) (step_is setup u h (Ends part after) below (ap want closes)))
+    (ap (place_in setup) (instruction_after_end setup u h part after below within (ap want closes)))
+    (story_reserves setup own after reserves)
+own_step setup u h StaysOver below within over reserves =
+    let still : u ≡ step setup u h = sym (step_is setup u h IsOver below (ap want over)) in
+    let At : Machine → Type 0 = λ m. Reserves (own_reservation m.ram h) (story_of setup m h) in
+    let In : Story → Type 0 = λ s. Reserves (own_reservation u.ram h) s in
+    subst At still (subst In (sym over) reserves)
+own_step setup u h ComesLater below within later reserves =
+    let still : u ≡ step setup u h = sym (step_is setup u h IsLater below (ap want later)) in
+    let At : Machine → Type 0 = λ m. Reserves (own_reservation m.ram h) (story_of setup m h) in
+    let In : Story → Type 0 = λ s. Reserves (own_reservation u.ram h) s in
+    subst At still (subst In (sym later) reserves)
+
+step_reserves : (setup : Setup) (u : Machine) (k : ℕ) → AllStand setup u → AllReserve setup u → AllReserve setup (step setup u k)
+step_reserves setup u k stand all = λ h below. elim (cases_eq h k) [
+  | inl same ↦
+      let At : ℕ → Type 0 = λ j. Reserves (own_reservation (step setup u j).ram h) (story_of setup (step setup u j) h) in
+      subst At same (own_step setup u h (story_of setup u h) below (omega (arith, below, stand.harts)) refl (all h below))
+  | inr other ↦
+      reserves_at setup (step setup u k) h (own_reservation u.ram h) (story_of setup u h) (other_step setup u h k other)
+      (ap (place_in setup) (instruction_at-other setup u k h other)) (all h below)
+]
+
+begin_reserves : (setup : Setup) → AllReserve setup (begin setup)
+begin_reserves setup = λ h below.
+    reserves_at setup (begin setup) h None (story setup (start h setup.image.entry)) refl
+    (ap (place_in setup) (instruction_at-begin setup h below)) (story_reserves setup None (start h setup.image.entry) (none_own None))
+
+from_reserves : (setup : Setup) (u : Machine) (order : List ℕ) → AllStand setup u → AllReserve setup u → AllReserve setup (reach_from setup u order)
+from_reserves setup u [] stand all =
+    let At : Machine → Type 0 = λ m. AllReserve setup m in
+    subst At (sym (reach-none setup u)) all
+from_reserves setup u (h ∷ order) stand all =
+    let At : Machine → Type 0 = λ m. AllReserve setup m in
+    subst At (sym (reach-cons setup u h order))
+    (from_reserves setup (step setup u h) order (all_step setup u h stand) (step_reserves setup u h stand all))
+
+access_asks : (made : List Done) (h : ℕ) (access : Access) → AsksFrom (own_reservation made h) access → AsksReserved made h (Asks access)
+access_asks made h (acc.Sc address width value) e = e
+access_asks made h other e = tt
+
+asks_reserved : (made : List Done) (h : ℕ) (s : Story) → Reserves (own_reservation made h) s → AsksReserved made h (want s)
+asks_reserved made h (Says access next) reserves = access_asks made h access reserves.0
+asks_reserved made h (Closes part after) reserves = tt
+asks_reserved made h StaysOver reserves = tt
+asks_reserved made h ComesLater reserves = tt
+
+-- in every state that an order leads to
+pub all_asks_reserved : (setup : Setup) (order : List ℕ) (h : ℕ) → h < setup.harts
+    → AsksReserved (reach setup order).ram h (want_of setup (reach setup order) h)
+all_asks_reserved setup order h below =
+    asks_reserved (reach setup order).ram h (story_of setup (reach setup order) h)
+    (from_reserves setup (begin setup) order (all_begin setup) (begin_reserves setup) h below)
