@@ -85,7 +85,8 @@ fn check_segment(file: &[u8], header: &ElfHeader, ram: u64, n: u16) -> Result<()
 
 // Checks the entry.
 fn check_entry(header: &ElfHeader, ram: u64) -> Result<(), ImageFault>
-    ensures { (file : List ℕ) → IsHeader file header.now → result_err result ≡ first_fault (entry_tests file ram) }
+    ensures { (file : List ℕ) → IsHeader file header.now
+        → result_err result ≡ first_fault (entry_tests file ram) }
 {
     let entry = header.e_entry;
     if entry % 4 == 0 && is_in_ram(ram, entry, 1) {

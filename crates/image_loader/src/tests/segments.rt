@@ -76,8 +76,8 @@ fn reads_any_number_of_program_headers(rt: HostRuntime) -> Result<(), Fail> {
     let mut file = executable(&rt, alloc, RAM_BASE, &segments, end)?;
     let image = load(alloc, &file, RAM)?;
     let ram = ram_of(&rt, alloc, &image)?;
-    assert!(rt; ram.len() >= 0xffff && file.len() >= 0xffff);
-    assert!(rt; ram[..0xffff] == file[..0xffff]);
+    let first = file.get(..0xffff).ok_or("a short file")?;
+    assert!(rt; ram.starts_with(first));
     put(&rt, &mut file, at(0xfffe, P_PADDR), 8, RAM_BASE + RAM);
     assert_eq!(rt;
         fault_of(alloc, &file),
