@@ -32,7 +32,7 @@ pub use image::Image;
 pub use line::Line;
 pub use operation::{AluOp, AmoOp, BranchOp, CsrOp, MulOp, Op};
 pub use outer::{Failed, MemoryOuter, Outer, RealOuter, SteadyOuter, TakeFault, write_whole};
-pub use reservation::{reservation_set, is_reserved};
+pub use reservation::{is_reserved, reservation_set};
 pub use settings::{
     FINISHER, Layout, MSIP, MTIME, MTIMECMP, Place, RAM_BASE, Settings, UART, UART_LSR,
 };

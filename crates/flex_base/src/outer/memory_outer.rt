@@ -34,7 +34,12 @@ impl MemoryOuter {
     /// in `failing` fail and write nothing.
     pub fn new(alloc: Global, files: Vec<(Text, Vec<u8>)>, failing: Vec<u64>) -> MemoryOuter
         ensures outside { ⟦<MemoryOuter as Outer>⟧.outside result ≡ record {
-            held = Some (files_of (entries_of files.items)); written = Some (λ _. None); said = Some []; read_faults = 0; write_faults = 0 } }
+          held = Some (files_of (entries_of files.items));
+          written = Some (λ _. None);
+          said = Some [];
+          read_faults = 0;
+          write_faults = 0;
+        } }
         ensures calls { calls_made result ≡ 0 }
         ensures failing { failing_calls result ≡ failing.items }
     {

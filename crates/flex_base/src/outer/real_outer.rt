@@ -1,8 +1,8 @@
 ghost use Rattle.std.specs.Prelude.{◌≡◌, ℕ, ◌≤◌, ◌<◌, None, Err, IfOk, length};
 
 use super::counts::rise;
-use crate::outer::{Failed, Outer, TakeFault};
 use super::streams::{read_whole, write_whole};
+use crate::outer::{Failed, Outer, TakeFault};
 use crate::text::Text;
 use std::fs::{File, Files, OpenFile, OpenOptions};
 use std::os::unix::fs::MetadataExt;

@@ -21,7 +21,12 @@ impl SteadyOuter {
     /// copied into memory of `alloc`.
     pub fn new(alloc: Global, files: Vec<(Text, Vec<u8>)>) -> SteadyOuter
         ensures { ⟦<SteadyOuter as Outer>⟧.outside result ≡ record {
-            held = Some (files_or_empty (entries_of files.items)); written = None; said = None; read_faults = 0; write_faults = 0 } }
+          held = Some (files_or_empty (entries_of files.items));
+          written = None;
+          said = None;
+          read_faults = 0;
+          write_faults = 0;
+        } }
     {
         SteadyOuter { alloc, files }
     }
@@ -29,7 +34,12 @@ impl SteadyOuter {
 
 impl Outer for SteadyOuter {
     ghost outside = { λ outer. record {
-        held = Some (files_or_empty (entries_of outer.files.items)); written = None; said = None; read_faults = 0; write_faults = 0 } };
+      held = Some (files_or_empty (entries_of outer.files.items));
+      written = None;
+      said = None;
+      read_faults = 0;
+      write_faults = 0;
+    } };
 
     fn take(&mut self, name: &str, limit: u64) -> Result<Vec<u8>, TakeFault> {
         match find(&self.files, name) {
