@@ -1,4 +1,4 @@
-ghost use Rattle.std.specs.Prelude.{List, length};
+ghost use Rattle.std.specs.Prelude.{List};
 ghost use Rattle.std.specs.Iterator.{YieldsFirst, item_count};
 ghost use Rattle.flex_base.specs.declared.event.Event.{Event};
 ghost use Rattle.journal.specs.Packing.{events_of};
@@ -38,9 +38,5 @@ impl<'a> Iterator for Events<'a> {
             }
         }
         Some(kept.event(last))
-    }
-
-    fn size_hint(&self) -> (usize, Option<usize>) {
-        (self.kept.len(), Some(self.kept.len()))
     }
 }
