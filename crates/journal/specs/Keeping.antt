@@ -1,5 +1,5 @@
 -- What a log keeps true.
-use Rattle.std.specs.Prelude.{◌≡◌, ℕ, ◌+◌, ◌-◌, ◌≤◌, Vec, vec_capacity, length, count_by}
+use Rattle.std.specs.Prelude.{◌≡◌, ℕ, ◌≤◌, Vec, vec_capacity, length, count_by}
 use Rattle.std.specs.declared.alloc.Global.{Global}
 use Rattle.journal.specs.Packing.{is_beside}
 use Rattle.journal.specs.declared.kept.Kept.{Kept}

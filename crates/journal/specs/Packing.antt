@@ -53,7 +53,12 @@ is_beside other = false
 
 -- the event, where its last number is given
 abbrev pub event_by : Kept → ℕ → Event
-event_by k last = record { number = k.number; hart = k.hart; engine = k.engine; what = what_of (record { kind = k.kind; stop = k.stop; first = k.first; second = k.second; third = k.third; last = last }) }
+event_by k last = record {
+  number = k.number;
+  hart = k.hart;
+  engine = k.engine;
+  what = what_of (record { kind = k.kind; stop = k.stop; first = k.first; second = k.second; third = k.third; last = last });
+}
 
 -- the event, where the next of the numbers beside is given
 abbrev pub event_of : Kept → ℕ → Event

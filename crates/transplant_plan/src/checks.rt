@@ -102,7 +102,8 @@ fn check_classes(alloc: Global, engines: &Table) -> Result<(), PlanFault>
 #[tactic(auto, unfolding(crate::specs::PlanFile::engine_fault))]
 fn check_class(alloc: Global, key: &str, value: &Value) -> Result<(), PlanFault>
     ensures ok { OnOk result (engine_fault key.now (view value.now) ≡ None) }
-    ensures fault { IfErr result (λ f. f ≢ PlanFault.OutOfMemory → engine_fault key.now (view value.now) ≡ Some f) }
+    ensures fault { IfErr result (λ f. f ≢ PlanFault.OutOfMemory
+        → engine_fault key.now (view value.now) ≡ Some f) }
 {
     match class_named(key) {
         Some(class) => check_engine(alloc, class, value),
@@ -116,7 +117,8 @@ fn check_class(alloc: Global, key: &str, value: &Value) -> Result<(), PlanFault>
 
 fn check_engine(alloc: Global, class: Class, value: &Value) -> Result<(), PlanFault>
     ensures ok { OnOk result (class_fault class (view value.now) ≡ None) }
-    ensures fault { IfErr result (λ f. f ≢ PlanFault.OutOfMemory → class_fault class (view value.now) ≡ Some f) }
+    ensures fault { IfErr result (λ f. f ≢ PlanFault.OutOfMemory
+        → class_fault class (view value.now) ≡ Some f) }
 {
     match value.as_str() {
         Some(name) => match engine_named(name) {

@@ -67,7 +67,8 @@ fn count_in(document: &Table, key: &str, counts: &[u8], default: u8) -> u8
 // The engines by the order of `Class`.
 fn engines_in(document: &Table) -> [Engine; 14]
     requires { first_fault top_fault (table_view document.now) ≡ None }
-    ensures engines { (class : Class) → engine_at result class ≡ engine_by (table_at (codes "engine") (table_view document.now)) class }
+    ensures engines { (class : Class)
+        → engine_at result class ≡ engine_by (table_at (codes "engine") (table_view document.now)) class }
     ensures capable { AllCanRun result }
 {
     let mut engines = [Engine::Host; 14];

@@ -93,7 +93,7 @@ fn each_fault_is_named(rt: HostRuntime) -> Result<(), Fail> {
 #[test]
 fn the_first_of_two_faults_is_named(rt: HostRuntime) -> Result<(), Fail> {
     let banks = || Expected::BadCount("banks", Some(3));
-    let table: [(&[u8], Expected); 12] = [
+    let table: [(&[u8], Expected); 21] = [
         (b"version = 2\nbanks = 3", banks()),
         (b"zone = 1\nbanks = 3", banks()),
         (b"banks = 3\nbank = 1", Expected::UnknownKey("bank")),
@@ -127,6 +127,21 @@ fn the_first_of_two_faults_is_named(rt: HostRuntime) -> Result<(), Fail> {
         ),
         (b"Banks = 4\nbanks = 3", Expected::UnknownKey("Banks")),
         (b"banks = 3\nbanks =", Expected::NotToml),
+        (b"bank = 1\nbanks =", Expected::NotToml),
+        (b"engine.alu = 1\nbanks =", Expected::NotToml),
+        (b"engine.csr = 'pipe'\nbanks =", Expected::NotToml),
+        (b"bank = 1 # \xff", Expected::NotUtf8),
+        (b"engine.alu = 1 # \xff", Expected::NotUtf8),
+        (b"engine.csr = 'pipe' # \xff", Expected::NotUtf8),
+        (b"banks = 3 # \xff", Expected::NotUtf8),
+        (
+            b"engine = {vector = 'host', alu = 1}",
+            Expected::UnknownEngine(Class::Alu, None),
+        ),
+        (
+            b"pipes = 9\nengine.alu = 'fpga'",
+            Expected::UnknownEngine(Class::Alu, Some("fpga")),
+        ),
     ];
     for (bytes, expected) in &table {
         assert!(rt; is_refused(rt.alloc(), bytes, expected));

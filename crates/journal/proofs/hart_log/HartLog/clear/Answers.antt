@@ -1,5 +1,4 @@
-use Rattle.std.proofs.Common.{◌≡◌, ℕ, ◌+◌, ◌-◌, List, [], length, sym, ap, ◌∙◌, arith}
-use Rattle.flex_base.specs.declared.event.Event.{Event}
+use Rattle.std.proofs.Common.{◌≡◌, ◌+◌, ◌-◌, [], length, sym, ap, ◌∙◌, arith}
 use Rattle.journal.specs.Log.{Log}
 use Rattle.journal.proofs.Packed.{length-events_of}
 use Rattle.journal.proofs.hart_log.HartLog.clear.Goals as goal
