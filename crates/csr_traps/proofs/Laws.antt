@@ -3,8 +3,8 @@ use Rattle.std.proofs.Common.{ℕ, ◌<◌, ◌≡◌, ◌≢◌, ◌⊎◌, Boo
 use Rattle.std.specs.Prelude.{filter, slice_index, if◌then◌else◌}
 use Rattle.flex_base.specs.Causes.{interrupt}
 use Rattle.flex_base.specs.Traps.{interrupts, first_cause, is_ready, is_for_m, is_for_s, takeable, is_on_for_m, is_on_for_s, with_field, with_bit, mode_of, mstatus_after_trap_to_m, mstatus_after_trap_to_s, mstatus_after_mret, mstatus_after_sret}
-use Rattle.flex_base.specs.Csrs.{is_set, mideleg, mode_number}
-use Rattle.flex_base.specs.Word.{field}
+use Rattle.flex_base.specs.Csrs.{mideleg, mode_number}
+use Rattle.flex_base.specs.Word.{field, is_set}
 use Rattle.flex_base.specs.declared.hart.Mode.{Mode}
 use Rattle.flex_base.specs.declared.hart.Mode.TheVariants as mode
 use Rattle.csr_traps.proofs.Fields.{bit_small, mie-with_mie, mie-with_mpie, mie-with_mpp, mie-with_mprv, mpie-with_mpie, mpp-with_mie, mpp-with_mpie, mpp-with_mpp, sie-with_mprv, sie-with_sie, sie-with_spie, sie-with_spp, spie-with_spie, spp-with_sie, spp-with_spie, spp-with_spp}

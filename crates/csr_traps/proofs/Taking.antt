@@ -5,7 +5,8 @@ use Rattle.std.proofs.lemmas.Bool.Decides.{nat_tests}
 use Rattle.std.proofs.lemmas.Nat.Bits.{bit_at_and, bit_at_not, bit_at-lt, bit_at-zero}
 use Rattle.std.specs.Prelude.{filter, slice_index}
 use Rattle.std.specs.Int.{w64, bit_at}
-use Rattle.flex_base.specs.Csrs.{is_set, mip, mie, mideleg}
+use Rattle.flex_base.specs.Word.{is_set}
+use Rattle.flex_base.specs.Csrs.{mip, mie, mideleg}
 use Rattle.flex_base.specs.Traps.{interrupts, first_cause, is_on_for_m, is_on_for_s, is_for_m, is_for_s, takeable}
 use Rattle.flex_base.specs.declared.hart.Mode.{Mode}
 use Rattle.csr_traps.specs.Ready.{ready_set, set_for_m, set_for_s, first_in}

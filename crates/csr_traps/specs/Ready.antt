@@ -1,6 +1,7 @@
 -- Interrupts as words, a bit for each.
 use Rattle.std.specs.Prelude.{ℕ, if◌then◌else◌, List, Option, filter, slice_index, bit_and, bit_or}
-use Rattle.flex_base.specs.Csrs.{is_set, all_but, mip, mie, mideleg}
+use Rattle.flex_base.specs.Word.{is_set}
+use Rattle.flex_base.specs.Csrs.{all_but, mip, mie, mideleg}
 use Rattle.flex_base.specs.Traps.{interrupts, first_cause, is_on_for_m, is_on_for_s}
 use Rattle.flex_base.specs.declared.hart.Mode.{Mode}
 

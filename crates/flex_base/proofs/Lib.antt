@@ -10,3 +10,9 @@ pub mod OwnReservations
 pub mod StandingReservations
 pub mod EndOfRun
 pub mod KnownBytes
+pub mod DevicePlaces
+pub mod Alarms
+pub mod DeviceLaws
+pub mod Waking
+pub mod Idle
+pub mod Timing

@@ -5,7 +5,6 @@ use Rattle.std.proofs.lemmas.Bool.{cases_eq, cases_lt, ne_eqb}
 use Rattle.std.proofs.lemmas.List.{map-append, get_or_past}
 use Rattle.std.proofs.lemmas.List.Elements.{filter-append}
 use Rattle.std.proofs.lemmas.List.FromFn.{get_or-map-range_with_len, length-map-range_with_len}
-
 use Rattle.flex_base.specs.Classes.{class_of_what}
 use Rattle.flex_base.specs.Setup.{Setup}
 use Rattle.flex_base.specs.Unsplit.{Made, begin, unsplit}
@@ -119,7 +118,7 @@ own_kept plan s m plain below kept =
     let to = plan m.hart (class_of_what m.what) in
     let from = holder_of plan s m.hart in
     let held : get_or (set s.engines m.hart to) m.hart (plan m.hart class.Fetch) ≡ to =
-        get_or-set_same s.engines m.hart to (plan m.hart class.Fetch) below in
+    get_or-set_same s.engines m.hart to (plan m.hart class.Fetch) below in
     let At : Engine → Type 0 = λ x. ByPlan (plan m.hart) (plan m.hart class.Fetch) (moves_of m.hart (split_event plan s m).events) x in
     subst At (sym held) (own_by (plan m.hart) m.hart (plan m.hart class.Fetch) from to s.events m.what (is_same_engine from to) refl refl plain kept)
 
@@ -133,7 +132,7 @@ other_kept plan s h m other kept =
     let to = plan m.hart (class_of_what m.what) in
     let from = holder_of plan s m.hart in
     let held : get_or (set s.engines m.hart to) h (plan h class.Fetch) ≡ holder_of plan s h =
-        get_or-set_other s.engines m.hart h to (plan h class.Fetch) (λ e. other (sym e)) in
+    get_or-set_other s.engines m.hart h to (plan h class.Fetch) (λ e. other (sym e)) in
     let same = other_number (with_handover s.events m.hart from to) h m.hart to m.what other ∙ other_handover s.events h m.hart from to other in
     let At : Engine → Type 0 = λ x. ByPlan (plan h) (plan h class.Fetch) (moves_of h (split_event plan s m).events) x in
     let Is : List (Engine × What) → Type 0 = λ ms. ByPlan (plan h) (plan h class.Fetch) ms (holder_of plan s h) in

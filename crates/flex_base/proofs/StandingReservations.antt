@@ -94,8 +94,13 @@ module _ (hart set : ℕ) where
           | inr spared ↦ inl (spared_too _ (all_spare made) _ spared both.0)
         ]
     | inr standing ↦ inr (record {
-        before = d ∷ standing.before; load = standing.load; after = standing.after;
-        all = ap (λ ds. d ∷ ds) standing.all; reserved = standing.reserved; spared = standing.spared })
+      before = d ∷ standing.before;
+      load = standing.load;
+      after = standing.after;
+      all = ap (λ ds. d ∷ ds) standing.all;
+      reserved = standing.reserved;
+      spared = standing.spared;
+    })
   ]
     where
       spared_too : (s r o : Bool) → (s && o) ≡ true → r ≡ true → ((s && r) && o) ≡ true

@@ -1,6 +1,6 @@
 -- Causes of traps (Volume II, "Machine Cause (mcause) Register", table of mcause values).
-use Rattle.std.specs.Prelude.{ℕ, ◌+◌, ◌^◌, Bool, ◌==◌}
-use Rattle.flex_base.specs.Word.{field}
+use Rattle.std.specs.Prelude.{ℕ, ◌+◌, ◌^◌, Bool}
+use Rattle.flex_base.specs.Word.{field, is_set}
 use Rattle.flex_base.specs.declared.hart.Mode.{Mode}
 use Rattle.flex_base.specs.declared.hart.Mode.TheVariants as mode
 
@@ -67,7 +67,7 @@ abbrev pub interrupt : ℕ → ℕ
 interrupt i = 2 ^ 63 + i
 
 abbrev pub is_interrupt : ℕ → Bool
-is_interrupt cause = field 63 1 cause == 1
+is_interrupt cause = is_set 63 cause
 
 -- the number of a cause, without the bit of interrupts
 abbrev pub code_of : ℕ → ℕ

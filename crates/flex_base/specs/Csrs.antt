@@ -2,7 +2,7 @@
 --
 -- A hart holds 21 words for them, the stores. Several registers can be views of one store.
 use Rattle.std.specs.Prelude.{◌≡◌, ◌≢◌, ℕ, ◌-◌, ◌<◌, Bool, true, not, ◌&&◌, ◌||◌, ◌==◌, nat_le, if◌then◌else◌, List, [], ◌∷◌, Option, None, Some, find, option_map, length, replicate, ◌++◌, slice_index, slice_set, bit_and, bit_or}
-use Rattle.flex_base.specs.Word.{field}
+use Rattle.flex_base.specs.Word.{field, is_set}
 use Rattle.flex_base.specs.declared.hart.Mode.{Mode}
 use Rattle.flex_base.specs.declared.hart.Mode.TheVariants as mode
 
@@ -74,10 +74,6 @@ mhartid = 20
 -- all stores are 0 at the start but the hart's number
 abbrev pub start_csrs : ℕ → List ℕ
 start_csrs hart = replicate 20 0 ++ hart ∷ []
-
--- the bit at a place of a word
-abbrev pub is_set : ℕ → ℕ → Bool
-is_set at word = field at 1 word == 1
 
 -- Bits of mstatus (Volume II, "Machine Status Registers (mstatus and mstatush)"). MPP has two bits, from this one on.
 abbrev pub SIE : ℕ

@@ -20,6 +20,8 @@ pub mod Forms
 pub mod FlatMemory
 pub mod DevicesSoFar
 pub mod Reservations
+pub mod Devices
+pub mod DeviceLaws
 pub mod Unsplit
 pub mod Rounds
 pub mod Built

@@ -3,7 +3,7 @@ use Rattle.std.specs.Prelude.{◌≡◌, ℕ, List, Bool, Some}
 use Rattle.flex_base.specs.Files.{Files}
 use Rattle.flex_base.specs.Outside.{Outside}
 use Rattle.flex_base.specs.FilesInMemory.{files_of, entries_of, files_of_map, is_due, one_more}
-use Rattle.flex_base.specs.declared.memory_outer.MemoryOuter.{MemoryOuter}
+use Rattle.flex_base.specs.declared.outer.memory_outer.MemoryOuter.{MemoryOuter}
 
 -- the files that can be taken, those written, the bytes said, and how often a read and a write have failed
 abbrev pub outside_of : MemoryOuter → Outside

@@ -145,7 +145,7 @@ module _ (setup : Setup) where
   abbrev pub loads_reserved : State → ℕ → ℕ → ℕ → Story
   loads_reserved a width rd address = reaches_ram a address width load_address_misaligned load_access_fault
       (Says (acc.Lr address width) (λ reply.
-          computes (record a { reservation = Some (reservation_set address) }) class.Atomic rd (extended true width reply.value)))
+      computes (record a { reservation = Some (reservation_set address) }) class.Atomic rd (extended true width reply.value)))
 
   -- a store-conditional makes its access within the hart's reservation alone; elsewhere it fails at once, with 1
   abbrev pub stores_conditional : State → ℕ → ℕ → ℕ → ℕ → Story
@@ -158,7 +158,7 @@ module _ (setup : Setup) where
   abbrev pub modifies : State → AmoOp → ℕ → ℕ → ℕ → ℕ → Story
   modifies a does width rd address value = reaches_ram a address width store_address_misaligned store_access_fault
       (Says (acc.Amo does address width (low (8 * width) value)) (λ reply.
-          computes a class.Atomic rd (extended true width reply.value)))
+      computes a class.Atomic rd (extended true width reply.value)))
 
   -- the work of a decoded instruction
   abbrev pub works : State → Op → Story

@@ -1,7 +1,7 @@
 -- Translation of addresses by Sv39 (Volume II, "Sv39: Page-Based 39-bit Virtual-Memory System").
 use Rattle.std.specs.Prelude.{ℕ, ◌+◌, ◌-◌, ◌*◌, ◌%◌, ◌^◌, ◌<◌, Bool, true, false, not, ◌&&◌, ◌||◌, ◌==◌, if◌then◌else◌, List, [], ◌∷◌, reverse, find, Option, None, Some}
 use Rattle.std.specs.List.{list_any, list_all}
-use Rattle.flex_base.specs.Word.{field}
+use Rattle.flex_base.specs.Word.{field, is_set}
 use Rattle.flex_base.specs.declared.hart.Mode.{Mode}
 use Rattle.flex_base.specs.declared.hart.Mode.TheVariants as mode
 use Rattle.flex_base.specs.declared.translation.Kind.{Kind}
@@ -9,10 +9,6 @@ use Rattle.flex_base.specs.declared.translation.Kind.TheVariants as kind
 use Rattle.flex_base.specs.declared.translation.Leaf.{Leaf}
 use Rattle.flex_base.specs.declared.translation.WalkStep.{WalkStep}
 use Rattle.flex_base.specs.declared.translation.WalkStep.TheVariants as step
-
--- the bit at a place of a word
-abbrev pub is_set : ℕ → ℕ → Bool
-is_set at word = field at 1 word == 1
 
 -- Virtual addresses ("Addressing and Memory Protection").
 

@@ -1,8 +1,8 @@
 -- Traps, returns from them, and interrupts (Volume II, "Machine-Level ISA" and "Supervisor-Level ISA").
 use Rattle.std.specs.Prelude.{ℕ, ◌+◌, ◌*◌, ◌%◌, ◌/◌, ◌^◌, Bool, true, false, not, ◌&&◌, ◌==◌, if◌then◌else◌, List, [], ◌∷◌, ◌++◌, Option, None, Some, filter, slice_index, slice_set, bit_or}
-use Rattle.flex_base.specs.Word.{field, wrap}
+use Rattle.flex_base.specs.Word.{field, is_set, wrap}
 use Rattle.flex_base.specs.Causes.{MEI, MSI, MTI, SEI, SSI, STI, interrupt, is_interrupt, code_of}
-use Rattle.flex_base.specs.Csrs.{stvec, sepc, scause, stval, mstatus, medeleg, mideleg, mie, mtvec, mepc, mcause, mtval, mip, mcycle, minstret, is_set, SIE, MIE, SPIE, MPIE, SPP, MPP, MPRV, mode_number}
+use Rattle.flex_base.specs.Csrs.{stvec, sepc, scause, stval, mstatus, medeleg, mideleg, mie, mtvec, mepc, mcause, mtval, mip, mcycle, minstret, SIE, MIE, SPIE, MPIE, SPP, MPP, MPRV, mode_number}
 use Rattle.flex_base.specs.declared.hart.Mode.{Mode}
 use Rattle.flex_base.specs.declared.hart.Mode.TheVariants as mode
 

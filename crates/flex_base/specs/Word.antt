@@ -17,5 +17,9 @@ sign_extend bits n = if nat_lt n (2 ^ (bits - 1)) then n else n + (2 ^ 64 - 2 ^ 
 abbrev pub field : ℕ → ℕ → ℕ → ℕ
 field at bits word = (word / 2 ^ at) % 2 ^ bits
 
+-- whether this bit of a word is 1
+abbrev pub is_set : ℕ → ℕ → Bool
+is_set at word = field at 1 word == 1
+
 abbrev pub is_multiple : ℕ → ℕ → Bool
 is_multiple n of = n % of == 0

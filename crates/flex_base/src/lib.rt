@@ -7,22 +7,17 @@
 
 mod access;
 mod class;
-mod counts;
 mod engine;
 mod event;
 mod gate;
 mod hart;
+mod hart_device;
 mod image;
 mod line;
-mod memory_files;
-mod memory_outer;
 mod operation;
 mod outer;
-mod real_outer;
 mod reservation;
 mod settings;
-mod steady_outer;
-mod streams;
 mod text;
 mod translation;
 
@@ -32,16 +27,15 @@ pub use engine::Engine;
 pub use event::{EndPart, Event, Stop, What};
 pub use gate::{Gate, OpenGate, Point};
 pub use hart::{HartId, Mode};
+pub use hart_device::{HartDevice, HartStanding};
 pub use image::Image;
 pub use line::Line;
-pub use memory_outer::MemoryOuter;
 pub use operation::{AluOp, AmoOp, BranchOp, CsrOp, MulOp, Op};
-pub use outer::{Failed, Outer, TakeFault};
-pub use real_outer::RealOuter;
-pub use reservation::{reservation_set, is_reserved};
-pub use settings::{Layout, Place, RAM_BASE, Settings};
-pub use steady_outer::SteadyOuter;
-pub use streams::write_whole;
+pub use outer::{Failed, MemoryOuter, Outer, RealOuter, SteadyOuter, TakeFault, write_whole};
+pub use reservation::{is_reserved, reservation_set};
+pub use settings::{
+    FINISHER, Layout, MSIP, MTIME, MTIMECMP, Place, RAM_BASE, Settings, UART, UART_LSR,
+};
 pub use text::Text;
 pub use translation::{Kind, Leaf, WalkStep};
 

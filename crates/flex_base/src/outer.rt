@@ -3,12 +3,24 @@ ghost use Rattle.std.specs.Result.{result_map_both};
 ghost use Rattle.flex_base.specs.Outside.{Outside, OnlyReads, OnlyWrites, OnlySays, Writes, Says};
 ghost use Rattle.flex_base.specs.Files.{Taken, Appended, AppendedPart, Started, StartedPart, Said, SaidPart};
 
+mod counts;
+mod memory_files;
+mod memory_outer;
+mod real_outer;
+mod steady_outer;
+pub(crate) mod streams;
+
+pub use memory_outer::MemoryOuter;
+pub use real_outer::RealOuter;
+pub use steady_outer::SteadyOuter;
+pub use streams::write_whole;
+
 /// Why a file wasn't taken.
 #[derive(Clone, Copy, Debug, PartialEq, Eq)]
 pub enum TakeFault {
     /// It couldn't be read.
     Failed,
-    /// It has this many bytes, more than the limit.
+    /// It has this many bytes or more, above the limit; exactly so many where the files are told.
     TooLong(u64),
     OutOfMemory,
 }

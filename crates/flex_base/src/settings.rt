@@ -6,6 +6,27 @@ ghost use Rattle.flex_base.specs.Limits.{is_lawful};
 /// The first address of RAM.
 pub const RAM_BASE: u64 = 0x8000_0000;
 
+/// The address of SiFive's test finisher, by which a program ends the run.
+pub const FINISHER: u64 = 0x0010_0000;
+
+/// The first address of the software interrupt bits of a core-local interruptor (CLINT), 4 bytes for
+/// each hart.
+pub const MSIP: u64 = 0x0200_0000;
+
+/// The first address of the timer compare values of a CLINT, 8 bytes for each hart (Volume II,
+/// "Machine Timer Registers (mtime and mtimecmp)").
+pub const MTIMECMP: u64 = 0x0200_4000;
+
+/// The address of the time of a CLINT, 8 bytes.
+pub const MTIME: u64 = 0x0200_bff8;
+
+/// The address of the first of a 16550 UART's eight registers: the receiver buffer when it is read,
+/// the transmitter holding register when it is written.
+pub const UART: u64 = 0x1000_0000;
+
+/// The address of the UART's line status register.
+pub const UART_LSR: u64 = 0x1000_0005;
+
 /// The size of a run.
 #[derive(Clone, Copy, Debug, PartialEq, Eq)]
 pub struct Settings {
@@ -81,13 +102,13 @@ fn is_device(harts: u8, address: u64, width: u8) -> bool
     ensures { result ≡ list_any (is_among address width) (device_registers harts) }
 {
     let harts = harts as u64;
-    is_register(address, width, 0x0010_0000, 4, 1)
-        || is_register(address, width, 0x0200_0000, 4, harts)
-        || is_register(address, width, 0x0200_4000, 8, harts)
-        || is_register(address, width, 0x0200_4000, 4, 2 * harts)
-        || is_register(address, width, 0x0200_bff8, 8, 1)
-        || is_register(address, width, 0x0200_bff8, 4, 2)
-        || is_register(address, width, 0x1000_0000, 1, 8)
+    is_register(address, width, FINISHER, 4, 1)
+        || is_register(address, width, MSIP, 4, harts)
+        || is_register(address, width, MTIMECMP, 8, harts)
+        || is_register(address, width, MTIMECMP, 4, 2 * harts)
+        || is_register(address, width, MTIME, 8, 1)
+        || is_register(address, width, MTIME, 4, 2)
+        || is_register(address, width, UART, 1, 8)
 }
 
 // Whether the address is one of `count` registers of `size` bytes, side by side from `base`.

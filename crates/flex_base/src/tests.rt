@@ -2,7 +2,7 @@ use super::*;
 
 mod heard;
 
-use crate::streams::read_whole;
+use crate::outer::streams::read_whole;
 use std::alloc::{AllocError, Global};
 use std::io::{Read, Write};
 use std::process::Abort;

@@ -24,9 +24,17 @@ use Rattle.hart_story.specs.declared.progress.Progress.TheVariants as progress
 
 -- a hart shows the work of its instruction its state, whatever lines the last pulse told
 pub shows : (hart : Hart) (a : State) (lines : ℕ) → StandsFor hart a → Shows hart (record a { lines = lines })
-shows hart a lines stands = record { regs = record {
-  pc = stands.regs.pc; x = stands.regs.x; mode = stands.regs.mode; reservation = stands.regs.reservation; ends = stands.regs.ends;
-  lines = refl; due = stands.regs.due } }
+shows hart a lines stands = record {
+  regs = record {
+    pc = stands.regs.pc;
+    x = stands.regs.x;
+    mode = stands.regs.mode;
+    reservation = stands.regs.reservation;
+    ends = stands.regs.ends;
+    lines = refl;
+    due = stands.regs.due;
+  };
+}
 
 -- the replies lead on by one
 pub reached_on : (setup : Setup) (i : Instruction) (p q : Progress) (reply : Reply) → Reached setup i p

@@ -22,8 +22,14 @@ small = record { harts = 1; ram = 1048576 }
 -- the state that the hart is in
 pub state_of : Hart → State
 state_of hart = record {
-  pc = hart.regs.pc; x = hart.regs.x; mode = hart.regs.mode; reservation = hart.regs.reservation; ends = hart.regs.ends;
-  lines = hart.regs.lines; due = hart.regs.due }
+  pc = hart.regs.pc;
+  x = hart.regs.x;
+  mode = hart.regs.mode;
+  reservation = hart.regs.reservation;
+  ends = hart.regs.ends;
+  lines = hart.regs.lines;
+  due = hart.regs.due;
+}
 
 pub is_there : (hart : Hart) → StandsFor hart (state_of hart)
 unfolding state_of

@@ -10,7 +10,7 @@ use crate::hart::Hart;
 use crate::memory::where_in_ram;
 use crate::outcome::{End, Outcome};
 use crate::width::cut;
-use flex_base::{Access, AmoOp, Class, Layout, reservation_set, is_reserved};
+use flex_base::{Access, AmoOp, Class, Layout, is_reserved, reservation_set};
 
 pub(crate) fn load_reserved(layout: &Layout, width: u8, rd: u8, address: u64) -> Outcome
     requires width { IsAtomicWidth width }

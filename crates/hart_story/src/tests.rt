@@ -75,7 +75,13 @@ fn make(rt: &impl Abort, hart: &mut Hart, word: u32, value: u64) -> (Need, EndPa
                 Need::Finish(_) => (needed, finish(hart, progress, &layout, BUDGET)),
                 Need::Ask(access, _) => {
                     assert_form(rt, &access, value);
-                    give(hart, &mut progress, &layout, BUDGET, Reply::with_value(value));
+                    give(
+                        hart,
+                        &mut progress,
+                        &layout,
+                        BUDGET,
+                        Reply::with_value(value),
+                    );
                     match need(hart, &progress, &layout, BUDGET) {
                         Need::Finish(_) => (needed, finish(hart, progress, &layout, BUDGET)),
                         _ => rt.abort(),

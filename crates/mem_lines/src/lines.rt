@@ -13,8 +13,8 @@ ghost use Rattle.mem_lines.specs.Steps.{done_of, IsSpan, IsHere, Follows, reply_
 
 use crate::image_bytes::bank_bytes;
 use crate::little_endian::{load, store};
-use crate::reservations::Reservations;
 use crate::offsets::offset;
+use crate::reservations::Reservations;
 use flex_base::{Access, AmoOp, HartId, Image, Reply, Settings, reservation_set};
 use rv_alu::amo;
 use std::alloc::{AllocError, Global};
@@ -40,7 +40,12 @@ impl Model for Lines {
     ghost Value = { Bank };
 
     ghost view = { λ l. record {
-        ram = l.ram; banks = l.banks; bank = l.bank; bytes = l.bytes.items; places = l.reservations } };
+      ram = l.ram;
+      banks = l.banks;
+      bank = l.bank;
+      bytes = l.bytes.items;
+      places = l.reservations;
+    } };
 
     ghost invariant = { λ l. IsKept l.ram l.banks l.bank l.bytes.items };
 }

@@ -1,7 +1,7 @@
 ghost use Rattle.std.specs.Prelude.{◌≡◌, ℕ, ◌<◌, slice_index_or, if◌then◌else◌, ◌==◌, None, Some};
 ghost use Rattle.flex_base.specs.FlatMemory.{broken, is_reserved};
 
-use flex_base::{reservation_set, is_reserved};
+use flex_base::{is_reserved, reservation_set};
 use std::marker::Model;
 
 // What each hart has reserved.

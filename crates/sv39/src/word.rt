@@ -1,7 +1,6 @@
 // The fields of a word.
 ghost use Rattle.std.specs.Prelude.{◌≡◌, ◌<◌};
-ghost use Rattle.flex_base.specs.Word.{field};
-ghost use Rattle.flex_base.specs.Translation.{is_set};
+ghost use Rattle.flex_base.specs.Word.{field, is_set};
 
 pub(crate) fn field(word: u64, at: u32, bits: u32) -> u64
     requires at { at < 64 }

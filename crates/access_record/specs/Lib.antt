@@ -1,0 +1,5 @@
+pub mod Logs
+pub mod Rule
+pub mod Passes
+pub mod Steps
+pub mod Gathered

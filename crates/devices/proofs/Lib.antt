@@ -1,0 +1,3 @@
+pub mod Replays
+mod Waiting
+mod Forms

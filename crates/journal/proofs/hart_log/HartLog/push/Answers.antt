@@ -1,0 +1,44 @@
+use Rattle.std.proofs.Common.{◌≡◌, ℕ, ◌-◌, ◌++◌, [], ◌∷◌, append-nil, sym, ap, ◌∙◌}
+use Rattle.flex_base.specs.declared.event.Event.{Event}
+use Rattle.flex_base.specs.declared.event.What.{What}
+use Rattle.journal.specs.Packing.{event_of, view_of}
+use Rattle.journal.specs.declared.kept.Kept.{Kept}
+use Rattle.journal.proofs.Packed.{pushed, more_beside, more_beside-beside, more_beside-small}
+use Rattle.journal.specs.declared.hart_log.HartLog.TheInside.{Inside}
+use Rattle.journal.proofs.hart_log.HartLog.push.Goals as goal
+use Rattle.journal.proofs.hart_log.HartLog.push.Goals.{in-Beside, in_default}
+
+pub returns : goal.returns
+returns c =
+    let event : Event = c.args.event in
+    let parts = c.of-parts.result in
+    let n : ℕ = parts.last in
+    let k : Kept = record {
+      number = event.number;
+      first = parts.first;
+      second = parts.second;
+      third = parts.third;
+      hart = event.hart;
+      engine = event.engine;
+      kind = parts.kind;
+      stop = parts.stop;
+      last = c.of-last.result;
+    } in
+    let with : What → Event = λ w. record { number = event.number; hart = event.hart; engine = event.engine; what = w } in
+    let is : event_of k n ≡ event = rw c.of-last.ensures (ap with c.of-parts.ensures) in
+    let i = c.self.inside in
+    let m = c.match-last.self-inside in
+    let new = c.push_reserved-2.new.self.items in
+    let from : (beside : m.beside.items ≡ i.beside.items ++ more_beside k n) (kept : m.kept.items ≡ i.kept.items) (whole : m.whole ≡ i.whole)
+    → view_of new m.beside.items m.whole ≡ record { events = c.args.self.now.events ++ event ∷ []; room = c.args.self.now.room - 1 } =
+    λ beside kept whole. ap (view_of new m.beside.items) whole
+    ∙ pushed c.args.self.now event i.kept.items i.beside.items i.whole k n new m.beside.items c.self.view_is c.self.invariant.told is
+    (c.push_reserved-2.ensures.items ∙ ap (λ ks. ks ++ k ∷ []) kept) beside in
+    elim c.match-last.branch [
+      | in-Beside w ↦
+          from (ap (λ (x : Inside). x.beside.items) w.self-inside-is ∙ w.push_reserved.ensures.items ∙ ap (λ l. i.beside.items ++ l) (sym (more_beside-beside k n w.in-Beside.is)))
+          (ap (λ (x : Inside). x.kept.items) w.self-inside-is) (ap (λ (x : Inside). x.whole) w.self-inside-is)
+      | in_default w ↦
+          from (ap (λ (x : Inside). x.beside.items) w.self-inside-is ∙ sym (append-nil i.beside.items) ∙ ap (λ l. i.beside.items ++ l) (sym (more_beside-small k n w.in_default.not-Beside)))
+          (ap (λ (x : Inside). x.kept.items) w.self-inside-is) (ap (λ (x : Inside). x.whole) w.self-inside-is)
+    ]

@@ -1,0 +1,66 @@
+use super::HartLog;
+use crate::kept::Kept;
+use flex_base::{Access, Class, EndPart, Engine, Event, HartId, Reply, What};
+use std::test::Fail;
+
+fn event(number: u64, what: What) -> Event {
+    Event {
+        number,
+        hart: HartId(1),
+        engine: Engine::Kernel,
+        what,
+    }
+}
+
+fn end(first: u64) -> What {
+    What::End(EndPart {
+        class: Class::Trap,
+        pc: 0x8000_0000,
+        next: u64::MAX,
+        first,
+        second: 7,
+    })
+}
+
+#[test]
+fn an_event_is_kept_in_40_bytes(rt: HostRuntime) {
+    assert_eq!(rt; std::mem::size_of::<Kept>(), 40);
+}
+
+// A log is filled, read, picked from and emptied. Two of its events have a last number that isn't
+// small: lines in the reply to a write, and a cause of 2^40.
+#[test]
+fn a_log_gives_what_was_pushed(rt: HostRuntime) -> Result<(), Fail> {
+    let write = Access::Write {
+        address: 0x8000_0100,
+        width: 8,
+        value: u64::MAX,
+    };
+    let reply = Reply {
+        value: 1,
+        lines: 0x888,
+        stop: true,
+    };
+    let pushed = [
+        event(3, end(13)),
+        event(4, What::Acc(write, reply)),
+        event(7, What::Handover(Engine::Pipe)),
+        event(9, end(0x8000_0000_0000_0007)),
+        event(u64::MAX, end(1 << 40)),
+    ];
+    let mut log = HartLog::new(rt.alloc(), 5)?;
+    for one in pushed {
+        assert!(rt; log.room() > 0);
+        log.push(one);
+    }
+    assert_eq!(rt; log.room(), 0);
+    let mut read = log.events();
+    for one in pushed {
+        assert_eq!(rt; read.next(), Some(one));
+    }
+    assert_eq!(rt; read.next(), None);
+    log.clear();
+    assert_eq!(rt; log.room(), 5);
+    assert_eq!(rt; log.events().next(), None);
+    Ok(())
+}

@@ -1,0 +1,6 @@
+mod Faults
+mod Members
+mod Plans
+mod Printed
+mod Readings
+mod Engines

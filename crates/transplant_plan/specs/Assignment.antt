@@ -1,0 +1,41 @@
+-- What a plan says.
+use Rattle.std.specs.Prelude.{ℕ, ℤ, pos, Bool, List, [], ◌∷◌}
+use Rattle.std.specs.List.{list_any}
+use Rattle.std.specs.Ordering.{int_eq}
+use Rattle.flex_base.specs.Classes.{default_plan}
+use Rattle.flex_base.specs.declared.class.Class.{Class}
+use Rattle.flex_base.specs.declared.engine.Engine.{Engine}
+
+-- the engine of each hart for each class, and how many banks of memory, pipes and kernels there are
+pub record Assignment : Type 0 where
+  pub engines : ℕ → Class → Engine
+  pub banks : ℕ
+  pub pipes : ℕ
+  pub kernels : ℕ
+
+-- where no file says otherwise
+abbrev pub default_banks : ℕ
+default_banks = 4
+
+abbrev pub default_pipes : ℕ
+default_pipes = 2
+
+abbrev pub default_kernels : ℕ
+default_kernels = 1
+
+abbrev pub default_assignment : Assignment
+default_assignment = record { engines = λ hart class. default_plan class; banks = default_banks; pipes = default_pipes; kernels = default_kernels }
+
+-- the numbers of banks, pipes and kernels that there may be
+abbrev pub bank_counts : List ℕ
+bank_counts = 1 ∷ 2 ∷ 4 ∷ 8 ∷ 16 ∷ 32 ∷ 64 ∷ []
+
+abbrev pub pipe_counts : List ℕ
+pipe_counts = 1 ∷ 2 ∷ 3 ∷ 4 ∷ 5 ∷ 6 ∷ 7 ∷ 8 ∷ []
+
+abbrev pub kernel_counts : List ℕ
+kernel_counts = 1 ∷ 2 ∷ 3 ∷ 4 ∷ []
+
+-- the number is one of these
+abbrev pub is_allowed : List ℕ → ℤ → Bool
+is_allowed counts number = list_any (λ n. int_eq (pos n) number) counts

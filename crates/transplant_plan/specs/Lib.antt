@@ -1,0 +1,6 @@
+pub mod Names
+pub mod Assignment
+pub mod PlanFile
+pub mod Planning
+pub mod Shown
+pub mod Document

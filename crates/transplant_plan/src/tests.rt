@@ -1,0 +1,196 @@
+use super::{Plan, PlanFault, plan_text, read_plan};
+use flex_base::{Class, Engine, Text};
+use std::alloc::{AllocError, Global};
+use std::test::Fail;
+
+// A fault, with texts to be compared.
+#[derive(Drop)]
+enum Expected<'a> {
+    NotUtf8,
+    NotToml,
+    UnknownKey(&'a str),
+    UnknownEngine(Class, Option<&'a str>),
+    CannotRun(Class, Engine),
+    BadCount(&'a str, Option<i64>),
+}
+
+fn is_text(text: &Text, expected: &str) -> bool {
+    text.bytes() == expected.as_bytes()
+}
+
+fn is_as(fault: &PlanFault, expected: &Expected) -> bool {
+    match (fault, expected) {
+        (PlanFault::NotUtf8, Expected::NotUtf8) => true,
+        (PlanFault::NotToml, Expected::NotToml) => true,
+        (PlanFault::UnknownKey(key), Expected::UnknownKey(k)) => is_text(key, k),
+        (PlanFault::UnknownEngine(class, None), Expected::UnknownEngine(c, None)) => class == c,
+        (PlanFault::UnknownEngine(class, Some(name)), Expected::UnknownEngine(c, Some(n))) => {
+            class == c && is_text(name, n)
+        }
+        (PlanFault::CannotRun(class, engine), Expected::CannotRun(c, e)) => {
+            class == c && engine == e
+        }
+        (PlanFault::BadCount(key, number), Expected::BadCount(k, n)) => {
+            is_text(key, k) && number == n
+        }
+        _ => false,
+    }
+}
+
+fn is_refused(alloc: Global, bytes: &[u8], expected: &Expected) -> bool {
+    match read_plan(alloc, bytes) {
+        Ok(_) => false,
+        Err(fault) => is_as(&fault, expected),
+    }
+}
+
+#[test]
+fn each_fault_is_named(rt: HostRuntime) -> Result<(), Fail> {
+    let table: [(&[u8], Expected); 20] = [
+        (b"\xff", Expected::NotUtf8),
+        (b"banks =", Expected::NotToml),
+        (b"banks = 2\nbanks = 2", Expected::NotToml),
+        (b"\xffbanks =", Expected::NotUtf8),
+        (b"bank = 4", Expected::UnknownKey("bank")),
+        (b"engine = 'host'", Expected::UnknownKey("engine")),
+        (
+            b"engine.vector = 'host'",
+            Expected::UnknownKey("engine.vector"),
+        ),
+        (b"engine.Alu = 'host'", Expected::UnknownKey("engine.Alu")),
+        (b"hart = {}", Expected::UnknownKey("hart")),
+        (
+            b"engine.alu = 'fpga'",
+            Expected::UnknownEngine(Class::Alu, Some("fpga")),
+        ),
+        (
+            b"engine.alu = 'Pipe'",
+            Expected::UnknownEngine(Class::Alu, Some("Pipe")),
+        ),
+        (b"engine.alu = 1", Expected::UnknownEngine(Class::Alu, None)),
+        (
+            b"engine.csr = 'pipe'",
+            Expected::CannotRun(Class::Csr, Engine::Pipe),
+        ),
+        (
+            b"engine.device = 'kernel'",
+            Expected::CannotRun(Class::Device, Engine::Kernel),
+        ),
+        (b"banks = 3", Expected::BadCount("banks", Some(3))),
+        (b"banks = 128", Expected::BadCount("banks", Some(128))),
+        (b"pipes = 0", Expected::BadCount("pipes", Some(0))),
+        (b"kernels = -1", Expected::BadCount("kernels", Some(-1))),
+        (b"kernels = 1.0", Expected::BadCount("kernels", None)),
+        (b"version = 2", Expected::BadCount("version", Some(2))),
+    ];
+    for (bytes, expected) in &table {
+        assert!(rt; is_refused(rt.alloc(), bytes, expected));
+    }
+    Ok(())
+}
+
+// Of two faults the one of the first key in the order of bytes, whatever the order in the file.
+#[test]
+fn the_first_of_two_faults_is_named(rt: HostRuntime) -> Result<(), Fail> {
+    let banks = || Expected::BadCount("banks", Some(3));
+    let table: [(&[u8], Expected); 21] = [
+        (b"version = 2\nbanks = 3", banks()),
+        (b"zone = 1\nbanks = 3", banks()),
+        (b"banks = 3\nbank = 1", Expected::UnknownKey("bank")),
+        (
+            b"[engine]\nvector = 'host'\n[bank]",
+            Expected::UnknownKey("bank"),
+        ),
+        (
+            b"kernels = 9\n[engine]\ncsr = 'pipe'",
+            Expected::CannotRun(Class::Csr, Engine::Pipe),
+        ),
+        (
+            b"pipes = 9\nkernels = 9",
+            Expected::BadCount("kernels", Some(9)),
+        ),
+        (
+            b"engine = {device = 'pipe', csr = 'pipe'}",
+            Expected::CannotRun(Class::Csr, Engine::Pipe),
+        ),
+        (
+            b"engine = {vector = 'host', walk = 'host', trap = 'pipe'}",
+            Expected::CannotRun(Class::Trap, Engine::Pipe),
+        ),
+        (
+            b"engine = {jump = 'fpga', csr = 1}",
+            Expected::UnknownEngine(Class::Csr, None),
+        ),
+        (
+            b"engine = {alu = 'fpga', csr = 'pipe'}",
+            Expected::UnknownEngine(Class::Alu, Some("fpga")),
+        ),
+        (b"Banks = 4\nbanks = 3", Expected::UnknownKey("Banks")),
+        (b"banks = 3\nbanks =", Expected::NotToml),
+        (b"bank = 1\nbanks =", Expected::NotToml),
+        (b"engine.alu = 1\nbanks =", Expected::NotToml),
+        (b"engine.csr = 'pipe'\nbanks =", Expected::NotToml),
+        (b"bank = 1 # \xff", Expected::NotUtf8),
+        (b"engine.alu = 1 # \xff", Expected::NotUtf8),
+        (b"engine.csr = 'pipe' # \xff", Expected::NotUtf8),
+        (b"banks = 3 # \xff", Expected::NotUtf8),
+        (
+            b"engine = {vector = 'host', alu = 1}",
+            Expected::UnknownEngine(Class::Alu, None),
+        ),
+        (
+            b"pipes = 9\nengine.alu = 'fpga'",
+            Expected::UnknownEngine(Class::Alu, Some("fpga")),
+        ),
+    ];
+    for (bytes, expected) in &table {
+        assert!(rt; is_refused(rt.alloc(), bytes, expected));
+    }
+    Ok(())
+}
+
+fn repeated(alloc: Global, head: &str, piece: &str, count: usize) -> Result<String, AllocError> {
+    let mut text = String::from_str(alloc, head)?;
+    for _ in 0..count {
+        text.push_str(piece)?;
+    }
+    Ok(text)
+}
+
+#[test]
+fn every_form_of_toml_is_read(rt: HostRuntime) -> Result<(), Fail> {
+    let alloc = rt.alloc();
+    let plan = read_plan(
+        alloc,
+        b"# a comment\nbanks = 0x10 # sixteen\n'pipes' = 0b11\n\"kernels\" = +4\nengine . alu = 'kernel'\n",
+    )?;
+    assert_eq!(rt; plan.banks(), 16);
+    assert_eq!(rt; plan.pipes(), 3);
+    assert_eq!(rt; plan.kernels(), 4);
+    assert_eq!(rt; plan.engine_for(Class::Alu), Engine::Kernel);
+    assert_eq!(rt; plan.engine_for(Class::Jump), Engine::Pipe);
+    let inline = read_plan(alloc, b"engine = { device = \"host\", trap = '''host''' }")?;
+    assert_eq!(rt; inline.engine_for(Class::Trap), Engine::Host);
+    assert_eq!(rt; inline.engine_for(Class::Walk), Engine::Kernel);
+    let longest = repeated(alloc, "banks = 8 # ", ".", 65_536 - 12)?;
+    assert_eq!(rt; longest.len(), 65_536);
+    assert_eq!(rt; read_plan(alloc, longest.as_bytes())?.banks(), 8);
+    // The reader takes arrays up to 80 deep: such a text is refused by its key, a deeper one as text.
+    let mut deep = repeated(alloc, "a = ", "[", 80)?;
+    deep.push_str(repeated(alloc, "", "]", 80)?.as_str())?;
+    assert!(rt; is_refused(alloc, deep.as_bytes(), &Expected::UnknownKey("a")));
+    let mut deeper = repeated(alloc, "a = ", "[", 81)?;
+    deeper.push_str(repeated(alloc, "", "]", 81)?.as_str())?;
+    assert!(rt; is_refused(alloc, deeper.as_bytes(), &Expected::NotToml));
+    Ok(())
+}
+
+#[test]
+fn a_printed_plan_is_read_back(rt: HostRuntime) -> Result<(), Fail> {
+    let alloc = rt.alloc();
+    let plan = Plan::default_plan();
+    assert_eq!(rt; read_plan(alloc, b"")?, plan);
+    let text = plan_text(alloc, &plan)?;
+    assert_eq!(rt; read_plan(alloc, &text)?, plan);
+    Ok(())
+}
