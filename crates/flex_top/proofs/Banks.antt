@@ -1,19 +1,44 @@
 -- The one bank that holds all of RAM.
-use Rattle.std.proofs.Common.{◌≡◌, ℕ, true, if◌then◌else◌, List, ap, sym, subst, ◌∙◌}
+use Rattle.std.proofs.Common.{◌≡◌, ℕ, ◌/◌, ◌%◌, true, if◌then◌else◌, List, ap, sym, subst, ◌∙◌, arith}
+use Rattle.flex_base.specs.Forms.{IsInRam, IsPlaced}
+use Rattle.flex_base.specs.declared.access.Access.TheVariants as acc
 use Rattle.flex_base.specs.Setup.{Setup}
 use Rattle.flex_base.specs.FlatMemory.{Done, is_ram_access}
-use Rattle.flex_base.specs.Unsplit.{noted}
+use Rattle.flex_base.specs.Unsplit.{with_access}
 use Rattle.flex_base.specs.declared.access.Access.{Access}
 use Rattle.flex_base.specs.declared.access.Reply.{Reply}
-use Rattle.mem_lines.specs.Bank.{Bank, IsReplay, IsSame}
-use Rattle.flex_top.specs.Memory.{Keeps, replayed}
+use Rattle.mem_lines.specs.Bank.{Bank, IsBank, IsReplay, IsSame, bank_of, address_of}
+use Rattle.mem_lines.specs.Steps.{IsHere}
+use Rattle.flex_top.specs.Memory.{Keeps, ram_after}
 
 -- all of RAM after one more access of it
 pub keeps_ram : (setup : Setup) (made : List Done) (old new : Bank) (h : ℕ) (access : Access) (reply : Reply) → is_ram_access access ≡ true → IsSame old new → Keeps setup made old
-    → IsReplay setup (noted made h access reply) new → Keeps setup (replayed made h access reply) new
+    → IsReplay setup (with_access made h access reply) new → Keeps setup (ram_after made h access reply) new
 keeps_ram setup made old new h access reply ram same keeps replay =
     let After : List Done → Type 0 = λ accesses. Keeps setup accesses new in
-    subst After (sym (ap (λ b. if b then noted made h access reply else made) ram)) (record {
+    subst After (sym (ap (λ b. if b then with_access made h access reply else made) ram)) (record {
       alone = record { ram_is = same.ram_is ∙ keeps.alone.ram_is; banks_are = same.banks_are ∙ keeps.alone.banks_are; bank_is = same.bank_is ∙ keeps.alone.bank_is };
       replay = replay;
     })
+
+-- an access of RAM that stands where it may, stands in RAM
+in_ram_of : (harts ram : ℕ) (access : Access) → is_ram_access access ≡ true → IsPlaced harts ram access → IsInRam ram access
+in_ram_of harts ram (acc.Fetch address) is placed = placed
+in_ram_of harts ram (acc.Pte address) is placed = placed
+in_ram_of harts ram (acc.Read address width) is placed = placed
+in_ram_of harts ram (acc.Write address width value) is placed = placed
+in_ram_of harts ram (acc.Lr address width) is placed = placed
+in_ram_of harts ram (acc.Sc address width value) is placed = placed
+in_ram_of harts ram (acc.Amo op address width value) is placed = placed
+in_ram_of harts ram other is placed = absurd cc
+
+one_bank : (n : ℕ) → n % 1 ≡ 0
+one_bank n = omega arith
+
+-- it is in the one bank
+pub is_here : (harts ram : ℕ) (bank : Bank) (access : Access) → IsBank ram 1 0 bank → is_ram_access access ≡ true → IsPlaced harts ram access → IsHere bank access
+is_here harts ram bank access alone is placed =
+    let In : ℕ → Type 0 = λ n. IsInRam n access in (
+      subst In (sym alone.ram_is) (in_ram_of harts ram access is placed),
+      ap (λ n. bank_of n (address_of access)) alone.banks_are ∙ one_bank (address_of access / 64) ∙ sym alone.bank_is,
+    )

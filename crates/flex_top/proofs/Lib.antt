@@ -1,4 +1,4 @@
-mod Completing
+pub mod Doing
 pub mod WordsLemmas
 pub mod HexDigits
 pub mod Banks
@@ -7,5 +7,4 @@ pub mod Rounds
 pub mod Writing
 pub mod Starting
 pub mod Growth
-pub mod ShownLists
-pub mod WholeText
+pub mod Tails

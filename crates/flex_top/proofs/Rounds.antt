@@ -1,24 +1,28 @@
 -- A turn of the player is a turn of the machine, and its turns are the rounds.
 use Rattle.std.proofs.Common.{◌≡◌, ℕ, ◌+◌, ◌-◌, ◌<◌, ◌≤◌, zero, suc, true, List, [], ◌∷◌, ◌++◌, length, None, Some, Option, Result, Ok, Err, refl, ap, sym, subst, ◌∙◌, arith, append_assoc, append-nil}
-use Rattle.std.specs.Prelude.{IfOk}
 use Rattle.std.specs.List.{range_with_len}
 use Rattle.flex_base.specs.Setup.{Setup}
 use Rattle.flex_base.specs.Unsplit.{Machine, step, reach, reach_from, begin, hart_numbers, has_ended}
-use Rattle.flex_base.specs.Rounds.{turn_of, turns, repeated, most_rounds, rounds, played}
+use Rattle.flex_base.specs.Rounds.{turn_of, turns, repeated, most_rounds, rounds, names_played}
 use Rattle.flex_base.specs.Built.{unbuilt_at, first_of, first_unbuilt}
 use Rattle.flex_base.proofs.Machines.{reach-cons, reach-none, reach-append, reach_push}
 use Rattle.flex_base.proofs.Turns.{first_none, first_unbuilt-append, turns_ended, turns-cons, turns-append}
 use Rattle.flex_base.proofs.Standing.{all_stand}
-use Rattle.flex_base.proofs.Going.{repeated-none, repeated-suc, below_most, rounds_end}
-use Rattle.hart_story.specs.declared.hart.Hart.{Hart}
-use Rattle.flex_top.specs.Play.{IsAt, IsStepped, Accesses, Finishes, IsDone, IsStuck, IsTurned, AfterTurn, with_turns, Playing, IsReached, HasPlayed}
+use Rattle.flex_base.proofs.EndOfRun.{repeated-none, repeated-suc, below_most, rounds_end}
+use Rattle.flex_top.specs.Play.{IsAt, Comes, AtUnbuilt, AfterStep, IsStepped, Accesses, Finishes, IsDone, IsStuck, IsTurned, with_turns, Playing, IsReached}
 use Rattle.flex_top.specs.declared.player.Player.{Player}
+use Rattle.flex_top.specs.declared.player.Step.{Step}
+use Rattle.flex_top.specs.declared.player.Step.TheVariants as step_of
+use Rattle.flex_top.specs.declared.player.Stuck.{Stuck}
+use Rattle.flex_top.specs.declared.player.Stuck.TheVariants as stuck
 
 -- Turns.
 
-pub IfOk-map : {T E : Type 0} (r : Result T E) (P Q : T → Type 0) → ((x : T) → P x → Q x) → IfOk r P → IfOk r Q
-IfOk-map (Ok x) P Q f h = f x h
-IfOk-map (Err e) P Q f h = tt
+-- what a caller that passes the reason on is left with
+pub stuck_from : {T : Type 0} (r : Result T Stuck) (why : Stuck) (Done : T → Type 0) (P Q : ℕ → Type 0) → (y : Stuck) × (r ≡ Err y) × (y ≡ why)
+    → ((pc : ℕ) → P pc → Q pc) → AtUnbuilt why P → Comes r Done Q
+stuck_from r (stuck.Unbuilt pc) Done P Q is more was = rw (is.1, is.2) (more pc was)
+stuck_from r stuck.OutOfMemory Done P Q is more was = rw (is.1, is.2) tt
 
 reach_on : (setup : Setup) (u : Machine) (h : ℕ) → turn_of setup u h ≡ h ∷ turn_of setup (step setup u h) h
     → reach_from setup (step setup u h) (turn_of setup (step setup u h) h) ≡ reach_from setup u (turn_of setup u h)
@@ -31,11 +35,14 @@ unbuilt_on setup u h names built =
     ∙ ap (λ o. first_of o (first_unbuilt setup (step setup u h) (turn_of setup (step setup u h) h))) built
 
 -- the turn goes on where the access left it
-pub turned_on : (setup : Setup) (u : Machine) (h : ℕ) (pc : Option ℕ) (player next : Player) → Accesses setup u h player → AfterTurn setup (step setup u h) h pc next → AfterTurn setup u h pc next
-turned_on setup u h None player next on after =
+pub turned_on : (setup : Setup) (u : Machine) (h : ℕ) (player : Player) (r : Result (Unit {0}) Stuck) (next : Player) → Accesses setup u h player
+    → Comes r (λ done. IsTurned setup (step setup u h) h next) (λ pc. first_unbuilt setup (step setup u h) (turn_of setup (step setup u h) h) ≡ Some pc)
+    → Comes r (λ done. IsTurned setup u h next) (λ pc. first_unbuilt setup u (turn_of setup u h) ≡ Some pc)
+turned_on setup u h player (Ok done) next on after =
     let At : Machine → Type 0 = λ m. IsAt setup m next in
     record { at = subst At (reach_on setup u h on.names) after.at; built = unbuilt_on setup u h on.names on.stepped.built ∙ after.built }
-turned_on setup u h (Some pc) player next on after = unbuilt_on setup u h on.names on.stepped.built ∙ after
+turned_on setup u h player (Err (stuck.Unbuilt pc)) next on after = unbuilt_on setup u h on.names on.stepped.built ∙ after
+turned_on setup u h player (Err stuck.OutOfMemory) next on after = tt
 
 pub turned_once : (setup : Setup) (u : Machine) (h : ℕ) (player : Player) → Finishes setup u h player → IsTurned setup u h player
 turned_once setup u h player after =
@@ -56,6 +63,11 @@ pub turned_stuck : (setup : Setup) (u : Machine) (h pc : ℕ) → IsStuck setup 
 turned_stuck setup u h pc stuck =
     ap (first_unbuilt setup u) stuck.names
     ∙ ap (λ o. first_of o (first_unbuilt setup (step setup u h) stuck.rest)) stuck.unbuilt
+
+pub stepped : (setup : Setup) (u : Machine) (h : ℕ) (came : Step) (player : Player) → AfterStep setup u h came player → IsStepped setup u h player
+stepped setup u h step_of.Accessed player after = after.stepped
+stepped setup u h step_of.Ended player after = after.stepped
+stepped setup u h step_of.Over player after = after.stepped
 
 -- The order.
 
@@ -123,7 +135,7 @@ playing_turn setup order done rest h player next playing below turned =
     }
 
 pub playing_stuck : (setup : Setup) (order done rest : List ℕ) (h pc : ℕ) (player : Player) → Playing setup order done (h ∷ rest) player → h < setup.harts
-    → first_unbuilt setup (reach setup (with_turns setup order done)) (turn_of setup (reach setup (with_turns setup order done)) h) ≡ Some pc → first_unbuilt setup (begin setup) (played setup order) ≡ Some pc
+    → first_unbuilt setup (reach setup (with_turns setup order done)) (turn_of setup (reach setup (with_turns setup order done)) h) ≡ Some pc → first_unbuilt setup (begin setup) (names_played setup order) ≡ Some pc
 playing_stuck setup order done rest h pc player playing below stuck =
     let names = with_turns setup order done in
     let u = reach setup names in
@@ -156,7 +168,7 @@ playing_rounds setup order player reached =
       built = ap (first_unbuilt setup (begin setup)) (sym names) ∙ reached.built;
     }
 
-pub played_stuck : (setup : Setup) (order : List ℕ) (pc : ℕ) → first_unbuilt setup (begin setup) order ≡ Some pc → first_unbuilt setup (begin setup) (played setup order) ≡ Some pc
+pub played_stuck : (setup : Setup) (order : List ℕ) (pc : ℕ) → first_unbuilt setup (begin setup) order ≡ Some pc → first_unbuilt setup (begin setup) (names_played setup order) ≡ Some pc
 played_stuck setup order pc stuck =
     first_unbuilt-append setup (begin setup) order (rounds setup (reach setup order))
     ∙ ap (λ o. first_of o (first_unbuilt setup (reach setup order) (rounds setup (reach setup order)))) stuck
@@ -202,25 +214,15 @@ below_rounds setup budget k some same below =
 
 -- The end.
 
-some_hart : (xs : List Hart) → 0 < length xs → Hart
-some_hart [] some = absurd (omega (arith, some))
-some_hart (hart ∷ xs) some = hart
-
--- a hart that stands for a state has the state's budget
-pub budget_is : (setup : Setup) (u : Machine) (player : Player) → IsAt setup u player → setup.budget ≡ player.budget
-budget_is setup u player at =
-    let some : 0 < length player.harts.items = omega (arith, at.some, at.harts) in
-    (at.each 0 (some_hart player.harts.items some) at.some).in_story.of.budget
-
 -- more rounds than the budget are all that there are, since they end the run
-pub played_all : (setup : Setup) (order : List ℕ) (j : ℕ) (rest : List ℕ) (player : Player) → setup.budget < j → Playing setup order (repeated j (hart_numbers setup)) rest player → HasPlayed setup order player
+pub played_all : (setup : Setup) (order : List ℕ) (j : ℕ) (rest : List ℕ) (player : Player) → setup.budget < j → Playing setup order (repeated j (hart_numbers setup)) rest player → IsReached setup (names_played setup order) player
 played_all setup order j rest player past playing =
     let u = reach setup order in
     let done = repeated j (hart_numbers setup) in
     let names = with_turns setup order done in
     let both = first_none (first_unbuilt setup (begin setup) order) (first_unbuilt setup u (turns setup u done)) (sym (first_unbuilt-append setup (begin setup) order (turns setup u done)) ∙ playing.built) in
     let ended : has_ended setup (reach setup names) ≡ true = ap (has_ended setup) (sym (reach_turns setup order done)) ∙ rounds_end setup u j (all_stand setup order) (λ h below. past) both.1 in
-    let order_is : played setup order ≡ names = ap (with_turns setup order) (sym playing.all)
+    let order_is : names_played setup order ≡ names = ap (with_turns setup order) (sym playing.all)
     ∙ turns_more setup order done rest
     ∙ ap (λ ns. names ++ ns) (turns_ended setup (reach setup names) rest ended)
     ∙ append-nil names in
@@ -228,5 +230,4 @@ played_all setup order j rest player past playing =
     record {
       at = subst At (sym order_is) playing.at;
       built = ap (first_unbuilt setup (begin setup)) order_is ∙ playing.built;
-      ended = ap (λ ns. has_ended setup (reach setup ns)) order_is ∙ ended;
     }

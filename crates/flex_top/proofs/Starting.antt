@@ -1,28 +1,26 @@
 -- The player at its start stands for the beginning of the machine.
 use Rattle.std.proofs.Common.{◌≡◌, ℕ, ◌<◌, ◌≤◌, true, List, [], length, get_or, refl, ap, sym, subst, ◌∙◌, arith}
 use Rattle.std.proofs.lemmas.Bool.Decides.{nat_tests}
-use Rattle.std.proofs.lemmas.List.{length-replicate}
 use Rattle.std.proofs.lemmas.List.FromFn.{length-map-range_with_len}
-use Rattle.flex_base.specs.Place.{ram_base}
+use Rattle.flex_base.specs.Loaded.{Loaded, image_fits}
 use Rattle.flex_base.specs.Limits.{is_lawful, mebibyte}
 use Rattle.flex_base.specs.Word.{is_multiple}
 use Rattle.flex_base.specs.State.{start}
 use Rattle.flex_base.specs.Classes.{default_plan}
-use Rattle.flex_base.specs.Unsplit.{Half, half_of, begin}
-use Rattle.flex_base.specs.Split.{Parted}
+use Rattle.flex_base.specs.Unsplit.{Instruction, instruction_from, begin}
+use Rattle.flex_base.specs.Split.{Splitting}
 use Rattle.flex_base.specs.declared.class.Class.TheVariants as class
-use Rattle.flex_base.specs.declared.settings.Layout.{Layout}
 use Rattle.flex_base.specs.declared.settings.Settings.{Settings}
-use Rattle.hart_story.specs.Progressing.{IsIn, IsSoundProgress, node, is_retired}
+use Rattle.hart_story.specs.Progress.{IsIn, IsSoundProgress, node, is_done}
 use Rattle.hart_story.specs.declared.hart.Hart.{Hart}
 use Rattle.hart_story.specs.declared.progress.Progress.{Progress}
 use Rattle.mem_lines.specs.Bank.{Bank}
-use Rattle.flex_base.proofs.Machines.{half_at-begin}
+use Rattle.flex_base.proofs.Machines.{instruction_at-begin}
 use Rattle.flex_top.specs.Answer.{setup_of}
 use Rattle.flex_top.specs.Memory.{Keeps}
-use Rattle.flex_top.specs.Play.{IsHart, IsAt, IsStarted, progress_at}
+use Rattle.flex_top.specs.Play.{IsHart, IsAt, IsStarted, progress_at, layout_of}
 use Rattle.flex_top.specs.declared.player.Player.{Player}
-use Rattle.flex_top.proofs.Writing.{parted_none}
+use Rattle.flex_top.proofs.Writing.{split_none}
 
 lawful_some : (settings : Settings) → is_lawful settings ≡ true → 0 < settings.harts
 lawful_some settings lawful = grind (arith, nat_tests)
@@ -33,36 +31,40 @@ lawful_few settings lawful = grind (arith, nat_tests)
 lawful_whole : (settings : Settings) → is_lawful settings ≡ true → is_multiple settings.ram mebibyte ≡ true
 lawful_whole settings lawful = grind (arith, nat_tests)
 
-pub starts : (file : List ℕ) (settings : Settings) (player : Player) (bank : Bank) → is_lawful settings ≡ true
-    → IsStarted player (record { harts = settings.harts; ram = settings.ram }) settings.budget ram_base bank
-    → Keeps (setup_of file settings.harts settings.ram settings.budget) [] bank
-    → IsAt (setup_of file settings.harts settings.ram settings.budget) (begin (setup_of file settings.harts settings.ram settings.budget)) player
-starts file settings player bank lawful begins keeps =
-    let setup = setup_of file settings.harts settings.ram settings.budget in
-    let Whole : Layout → Type 0 = λ l. is_multiple l.ram mebibyte ≡ true in
+entry_aligned : (ram : ℕ) (image : Loaded) → image_fits ram image ≡ true → is_multiple image.entry 4 ≡ true
+entry_aligned ram image fits = grind (arith, nat_tests)
+
+pub starts : (image : Loaded) (settings : Settings) (player : Player) (bank : Bank) → is_lawful settings ≡ true
+    → IsStarted player settings image.entry bank
+    → image_fits settings.ram image ≡ true
+    → Keeps (setup_of image settings) [] bank
+    → IsAt (setup_of image settings) (begin (setup_of image settings)) player
+starts image settings player bank lawful begins fits keeps =
+    let setup = setup_of image settings in
     let Kept : Bank → Type 0 = λ b. Keeps setup [] b in
     let each = λ (h : ℕ) (other : Hart) (below : h < setup.harts).
     let hart = get_or player.harts.items h other in
-    let Sound : Progress → Type 0 = λ p. IsSoundProgress player.layout hart p in
-    let there : IsIn setup (start h ram_base) [] hart (progress_at player h) player.layout player.budget = record {
-      of = record { harts = ap (λ l. l.harts) (sym begins.layout_is); ram = ap (λ l. l.ram) (sym begins.layout_is); budget = sym begins.budget_is; whole = subst Whole (sym begins.layout_is) (lawful_whole settings lawful) };
+    let Sound : Progress → Type 0 = λ p. IsSoundProgress (layout_of settings) hart p in
+    let there : IsIn setup (instruction_from (start h image.entry)) hart (progress_at player h) (layout_of settings) settings.budget = record {
+      of = record { harts = refl; ram = refl; budget_is = refl; whole = lawful_whole settings lawful };
       stands = begins.harts.each h other below;
-      fit = record { aligned = refl; within = omega arith; reserved = tt };
-      reached = ap (node setup (start h ram_base)) (sym (begins.progress.1 h));
+      fit = record { aligned = entry_aligned settings.ram image fits; within = omega arith; reserved = tt };
+      reached = ap (node setup (start h image.entry)) (sym (begins.progress.1 h));
       sound = subst Sound (sym (begins.progress.1 h)) tt;
     } in
-    let AtHalf : Half → Type 0 = λ x. IsIn setup x.state x.replies hart (progress_at player h) player.layout player.budget in
-    let in_story = subst AtHalf (sym (half_at-begin setup h below)) there in
-    let first : IsHart setup (begin setup) h hart (progress_at player h) player.layout player.budget = record { in_story = in_story; spent = sym (ap is_retired (begins.progress.1 h)) } in
+    let AtHalf : Instruction → Type 0 = λ x. IsIn setup x hart (progress_at player h) (layout_of settings) settings.budget in
+    let in_story = subst AtHalf (sym (instruction_at-begin setup h below)) there in
+    let first : IsHart setup (begin setup) h hart (progress_at player h) = record { in_story = in_story; spent = sym (ap is_done (begins.progress.1 h)) } in
     first in
     record {
       some = lawful_some settings lawful;
       few = lawful_few settings lawful;
-      halves = length-map-range_with_len (λ h. half_of (start h ram_base)) 0 setup.harts;
+      settings = begins.settings_is;
+      halves = length-map-range_with_len (λ h. instruction_from (start h image.entry)) 0 setup.harts;
       harts = begins.harts.size;
       progress = begins.progress.0;
-      engines = ap (λ (p : Parted). length p.engines) begins.run ∙ length-replicate settings.harts (default_plan class.Fetch);
+      engines = ap (λ (p : Splitting). length p.engines) begins.run ∙ length-map-range_with_len (λ h. default_plan h class.Fetch) 0 settings.harts;
       each = each;
-      run = parted_none default_plan setup.harts ∙ sym begins.run;
+      run = split_none default_plan setup.harts ∙ sym begins.run;
       memory = subst Kept (sym begins.lines) keeps;
     }

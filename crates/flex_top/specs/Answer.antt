@@ -1,32 +1,75 @@
--- What `solo` answers, and what it writes.
-use Rattle.std.specs.Prelude.{◌≡◌, ℕ, ◌-◌, ◌^◌, ◌<◌, ◌⊎◌, Bool, true, false, ◌&&◌, ◌==◌, if◌then◌else◌, nat_lt, List, [], ◌∷◌, length, Option, None, Some}
+-- What `solo` answers, and what it leaves.
+use Rattle.std.specs.Prelude.{◌≡◌, ℕ, Bool, true, false, ◌&&◌, ◌==◌, if◌then◌else◌, nat_lt, List, [], ◌∷◌, length, Option, None, Some, Result, Ok, Err}
 use Rattle.flex_base.specs.Place.{ram_base}
 use Rattle.flex_base.specs.Loaded.{Loaded}
 use Rattle.flex_base.specs.Setup.{Setup}
+use Rattle.flex_base.specs.Files.{Files}
 use Rattle.flex_base.specs.Classes.{default_plan}
 use Rattle.flex_base.specs.Unsplit.{begin, unsplit, reach, has_ended}
-use Rattle.flex_base.specs.Rounds.{played}
+use Rattle.flex_base.specs.Rounds.{names_played}
 use Rattle.flex_base.specs.Built.{first_unbuilt}
-use Rattle.flex_base.specs.Split.{split}
-use Rattle.flex_base.specs.Journal.{IsLegal, Obeys, order_of}
+use Rattle.flex_base.specs.Split.{split, Obeys}
+use Rattle.flex_base.specs.Journal.{IsLegal, order_of, console}
 use Rattle.flex_base.specs.declared.event.Event.{Event}
+use Rattle.flex_base.specs.declared.settings.Settings.{Settings}
 use Rattle.flex_top.specs.Trace.{trace_text}
+use Rattle.flex_top.specs.Words.{Reading}
 use Rattle.flex_top.specs.declared.status.Status.{Status}
 use Rattle.flex_top.specs.declared.status.Status.TheVariants as status
 use Rattle.flex_top.specs.declared.status.ImageFault.TheVariants as image
+
+-- Images.
 
 -- a raw file stands at the beginning of RAM, which is its entry
 abbrev pub raw : List ℕ → Loaded
 raw file = record { entry = ram_base; parts = (ram_base, file) ∷ [] }
 
--- a run of a raw file: so many harts, so much RAM in bytes, and so many ends of each hart
-abbrev pub setup_of : List ℕ → ℕ → ℕ → ℕ → Setup
-setup_of file harts ram budget = record { image = raw file; harts = harts; ram = ram; budget = budget }
-
 -- the file begins with the bytes 7f 45 4c 46
 abbrev pub is_elf : List ℕ → Bool
 is_elf (a ∷ b ∷ c ∷ d ∷ rest) = (a == 0x7f) && (b == 0x45) && (c == 0x4c) && (d == 0x46)
 is_elf other = false
+
+-- the image that a file is in so much RAM, or why it can't be run: ELF files aren't built, and a raw file may be longer
+-- than RAM
+abbrev pub loaded : List ℕ → ℕ → Result Loaded Status
+loaded file ram = if is_elf file then Err (status.Unbuilt None)
+    else (if nat_lt ram (length file) then Err (status.ImageRefused (image.SegmentOutsideRam 0)) else Ok (raw file))
+
+-- an image file has at most 256 MiB
+abbrev pub image_limit : ℕ
+image_limit = 268435456
+
+-- the image of the file of a name, if there is one
+abbrev pub taken : Option (List ℕ) → ℕ → Result Loaded Status
+taken None ram = Err status.ReadFault
+taken (Some file) ram =
+    if nat_lt image_limit (length file) then Err (status.ImageRefused (image.TooLong (length file)))
+    else loaded file ram
+
+-- Runs.
+
+-- a run of an image with these settings
+abbrev pub setup_of : Loaded → Settings → Setup
+setup_of image settings = record { image = image; harts = settings.harts; ram = settings.ram; budget = settings.budget }
+
+-- the journal of the run: what the unsplit machine does in the order and then in the rounds, split by the default plan
+unfoldable pub journal_of : Setup → List ℕ → List Event
+journal_of setup order = split default_plan setup.harts (unsplit setup (names_played setup order))
+
+unfoldable pub trace_of : Setup → List ℕ → List ℕ
+trace_of setup order = trace_text setup (journal_of setup order)
+
+-- the journal is that of a legal run that obeys the default plan and has ended
+pub record IsWhole (setup : Setup) (order : List ℕ) : Type 0 where
+  pub legal : IsLegal setup (journal_of setup order)
+  pub obeys : Obeys default_plan (journal_of setup order)
+  pub ended : has_ended setup (reach setup (order_of (journal_of setup order))) ≡ true
+
+-- a run of which all is built is whole
+pub record EndsWhole (setup : Setup) (order : List ℕ) : Type 0 where
+  pub whole : first_unbuilt setup (begin setup) (names_played setup order) ≡ None → IsWhole setup order
+
+-- Answers.
 
 -- a run that comes to what isn't built isn't written
 abbrev pub answer_of_run : Option ℕ → Status
@@ -35,49 +78,32 @@ answer_of_run (Some pc) = status.Unbuilt (Some pc)
 
 -- the run takes the harts in this order, and then in rounds
 abbrev pub answer_of_setup : Setup → List ℕ → Status
-answer_of_setup setup order = answer_of_run (first_unbuilt setup (begin setup) (played setup order))
+answer_of_setup setup order = answer_of_run (first_unbuilt setup (begin setup) (names_played setup order))
 
--- a file that can be taken: what isn't built of images, a raw file that is longer than RAM, or the run
-abbrev pub answer_of_file : List ℕ → ℕ → ℕ → ℕ → List ℕ → Status
-answer_of_file file harts ram budget order = if is_elf file then status.Unbuilt None
-    else (if nat_lt ram (length file) then status.ImageRefused (image.SegmentOutsideRam 0) else answer_of_setup (setup_of file harts ram budget) order)
+-- the refusal of the image, or the answer of the run
+abbrev pub answer_of : Result Loaded Status → Settings → List ℕ → Status
+answer_of (Err refusal) settings order = refusal
+answer_of (Ok image) settings order = answer_of_setup (setup_of image settings) order
 
--- an image file has at most 256 MiB
-abbrev pub image_limit : ℕ
-image_limit = 268435456
+-- the answer that the words and the files determine
+abbrev pub expected : Reading → Files → Status
+expected r files = answer_of (taken (files r.image) r.settings.ram) r.settings r.order
 
-abbrev pub expected : List ℕ → ℕ → ℕ → ℕ → List ℕ → Status
-expected file harts ram budget order = if nat_lt image_limit (length file) then status.ImageRefused (image.TooLong (length file)) else answer_of_file file harts ram budget order
+-- What is left.
 
--- the answer is the expected one, unless a fault of the outside or want of memory came before
-abbrev pub IsAnswer : Status → Status → Type 0
-IsAnswer expected status.ReadFault = Unit {0}
-IsAnswer expected status.OutOfMemory = Unit {0}
-IsAnswer expected status.WriteFault = expected ≡ status.Ended
-IsAnswer expected answer = answer ≡ expected
+-- the bytes said, and then the text of a file by its name
+pub record Outcome : Type 0 where
+  pub said : List ℕ
+  pub file : Option (List ℕ × List ℕ)
 
--- a count of faults that doesn't rise and is below its end
-abbrev pub IsCalm : ℕ → ℕ → Type 0
-IsCalm before now = (now ≡ before) × (now < 2 ^ 64 - 1)
+-- nothing where the image is refused; else the console bytes of the run, and its trace
+abbrev pub outcome_of : Result Loaded Status → Reading → Outcome
+outcome_of (Err refusal) r = record { said = []; file = None }
+outcome_of (Ok image) r = record {
+  said = console (journal_of (setup_of image r.settings) r.order);
+  file = Some (r.trace, trace_of (setup_of image r.settings) r.order);
+}
 
--- the trace was written, or memory ran out
-abbrev pub IsEnded : Status → Type 0
-IsEnded answer = (answer ≡ status.Ended) ⊎ (answer ≡ status.OutOfMemory)
-
--- the answer for an image of this name, if there is one
-abbrev pub Answers : Option (List ℕ) → ℕ → ℕ → ℕ → List ℕ → Status → Type 0
-Answers None harts ram budget order answer = answer ≡ status.ReadFault
-Answers (Some file) harts ram budget order answer = IsAnswer (expected file harts ram budget order) answer
-
--- the journal of the run: what the unsplit machine does in the order and then in the rounds, split by the default plan
-unfoldable pub journal_of : Setup → List ℕ → List Event
-journal_of setup order = split default_plan setup.harts (unsplit setup (played setup order))
-
-unfoldable pub trace_of : Setup → List ℕ → List ℕ
-trace_of setup order = trace_text setup (journal_of setup order)
-
--- the journal is that of a legal run that obeys the default plan and has ended
-pub record IsWhole (setup : Setup) (order : List ℕ) : Type 0 where
-  pub legal : IsLegal setup (journal_of setup order)
-  pub obeys : Obeys default_plan setup.harts (journal_of setup order)
-  pub ended : has_ended setup (reach setup (order_of (journal_of setup order))) ≡ true
+-- what the words and the files determine to be left
+abbrev pub outcome : Reading → Files → Outcome
+outcome r files = outcome_of (taken (files r.image) r.settings.ram) r

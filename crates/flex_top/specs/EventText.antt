@@ -1,4 +1,4 @@
--- The trace text: the bytes of each line. Fields are parted by one space, and each line ends with a line feed.
+-- The trace text: the bytes of each line. Fields are split_run by one space, and each line ends with a line feed.
 use Rattle.std.specs.Prelude.{ℕ, ◌+◌, ◌/◌, ◌%◌, zero, suc, Bool, true, false, nat_lt, if◌then◌else◌, List, [], ◌∷◌, ◌++◌, codes, decimal}
 use Rattle.flex_base.specs.Limits.{mebibyte}
 use Rattle.flex_base.specs.declared.access.Access.{Access}
@@ -90,8 +90,10 @@ access_text (acc.Pte address) reply = pte_text address reply.value
 access_text (acc.Read address width) reply = moved_text (codes "read ") address width reply.value
 access_text (acc.Write address width value) reply = moved_text (codes "write ") address width value
 access_text (acc.Lr address width) reply = moved_text (codes "lr ") address width reply.value
-access_text (acc.Sc address width value) reply = moved_text (codes "sc ") address width value ++ codes " " ++ decimal reply.value
-access_text (acc.Amo op address width value) reply = codes "amo " ++ amo_text op ++ moved_text (codes " ") address width value ++ codes " " ++ hex reply.value
+access_text (acc.Sc address width value) reply =
+    moved_text (codes "sc ") address width value ++ codes " " ++ decimal reply.value
+access_text (acc.Amo op address width value) reply =
+    codes "amo " ++ amo_text op ++ moved_text (codes " ") address width value ++ codes " " ++ hex reply.value
 access_text (acc.DevRead address width) reply = moved_text (codes "devread ") address width reply.value
 access_text (acc.DevWrite address width value) reply = moved_text (codes "devwrite ") address width value
 access_text (acc.Pulse tick) reply = codes "pulse " ++ flag tick ++ told_text reply
@@ -105,7 +107,8 @@ outcome_text class.Trap cause tval = hex cause ++ codes " " ++ hex tval
 outcome_text other register value = codes "x" ++ decimal register ++ codes " " ++ hex value
 
 abbrev pub end_text : EndPart → List ℕ
-end_text part = codes "end " ++ class_text part.class ++ codes " " ++ hex part.pc ++ codes " " ++ hex part.next ++ codes " " ++ outcome_text part.class part.first part.second
+end_text part = codes "end " ++ class_text part.class ++ codes " " ++ hex part.pc ++ codes " " ++ hex part.next
+    ++ codes " " ++ outcome_text part.class part.first part.second
 
 abbrev pub what_text : What → List ℕ
 what_text (what.Acc access reply) = access_text access reply
@@ -114,8 +117,10 @@ what_text (what.Handover to) = codes "to " ++ engine_text to
 
 -- the line of an event
 unfoldable pub event_text : Event → List ℕ
-event_text e = decimal e.number ++ codes " " ++ decimal e.hart.0 ++ codes " " ++ engine_text e.engine ++ codes " " ++ what_text e.what ++ codes "\n"
+event_text e = decimal e.number ++ codes " " ++ decimal e.hart.0 ++ codes " " ++ engine_text e.engine ++ codes " "
+    ++ what_text e.what ++ codes "\n"
 
 -- the first line
 unfoldable pub header_text : Settings → List ℕ
-header_text settings = codes "trace 1 harts " ++ decimal settings.harts ++ codes " ram " ++ decimal (settings.ram / mebibyte) ++ codes " budget " ++ decimal settings.budget ++ codes "\n"
+header_text settings = codes "trace 1 harts " ++ decimal settings.harts ++ codes " ram "
+    ++ decimal (settings.ram / mebibyte) ++ codes " budget " ++ decimal settings.budget ++ codes "\n"

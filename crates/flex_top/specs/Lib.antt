@@ -1,6 +1,7 @@
 pub mod Words
 pub mod EventText
 pub mod TailText
+pub mod Tail
 pub mod Trace
 pub mod Written
 pub mod Memory
@@ -8,4 +9,6 @@ pub mod Splitting
 pub mod Play
 pub mod Status
 pub mod Answer
+pub mod Does
+pub mod Refusal
 pub mod Ready

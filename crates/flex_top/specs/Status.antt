@@ -1,5 +1,5 @@
 -- Statuses: the number that the program ends with, and the line that it says.
-use Rattle.std.specs.Prelude.{ℕ, Bool, true, false, if◌then◌else◌, List, [], ◌++◌, codes, decimal}
+use Rattle.std.specs.Prelude.{ℕ, Bool, true, false, if◌then◌else◌, List, [], ◌++◌, codes}
 use Rattle.flex_top.specs.declared.status.Status.{Status}
 use Rattle.flex_top.specs.declared.status.Status.TheVariants as status
 use Rattle.flex_top.specs.declared.status.ImageFault.{ImageFault}
@@ -14,13 +14,10 @@ status_code status.OutOfMemory = 5
 status_code status.WriteFault = 6
 status_code (status.Unbuilt pc) = 10
 
--- the number of an image's fault
-abbrev pub fault_number : ImageFault → ℕ
-fault_number (image.SegmentOutsideRam index) = 9
-fault_number (image.TooLong bytes) = 11
-
+-- a fault of an image, by its number among all that an image can have
 abbrev pub refusal : ImageFault → List ℕ
-refusal fault = codes "image refused " ++ decimal (fault_number fault)
+refusal (image.SegmentOutsideRam index) = codes "image refused 9"
+refusal (image.TooLong bytes) = codes "image refused 11"
 
 -- what a status says
 abbrev pub meaning : Status → List ℕ

@@ -1,15 +1,22 @@
 -- The whole trace text.
 use Rattle.std.specs.Prelude.{ℕ, ◌+◌, List, ◌++◌, map}
-use Rattle.std.specs.List.{range_with_len}
+use Rattle.std.specs.List.{flat_map, range_with_len}
 use Rattle.flex_base.specs.Place.{ram_base}
 use Rattle.flex_base.specs.Setup.{Setup}
 use Rattle.flex_base.specs.FlatMemory.{byte}
-use Rattle.flex_base.specs.Unsplit.{Machine, half_at, stop_of, reach}
+use Rattle.flex_base.specs.Unsplit.{Machine, instruction_at, reach}
+use Rattle.flex_base.specs.DevicesSoFar.{stop_of}
 use Rattle.flex_base.specs.Journal.{order_of}
 use Rattle.flex_base.specs.declared.event.Event.{Event}
 use Rattle.flex_base.specs.declared.settings.Settings.{Settings}
-use Rattle.flex_top.specs.EventText.{header_text}
-use Rattle.flex_top.specs.TailText.{events_text, closing_text}
+use Rattle.flex_top.specs.EventText.{header_text, event_text}
+use Rattle.flex_top.specs.TailText.{tail_line_text}
+use Rattle.flex_top.specs.Tail.{tail_lines}
+use Rattle.flex_top.specs.declared.text.tail_text.TailLine.{TailLine}
+
+-- the header, a line of each event, and the lines after them
+unfoldable pub whole_text : Settings → List Event → List TailLine → List ℕ
+whole_text settings events tail = header_text settings ++ flat_map event_text events ++ flat_map tail_line_text tail
 
 abbrev pub settings_of : Setup → Settings
 settings_of setup = record { harts = setup.harts; ram = setup.ram; budget = setup.budget }
@@ -18,10 +25,11 @@ settings_of setup = record { harts = setup.harts; ram = setup.ram; budget = setu
 unfoldable pub ram_bytes : Setup → Machine → List ℕ
 ram_bytes setup u = map (λ i. byte setup.image u.ram (ram_base + i)) (range_with_len 0 setup.ram)
 
--- the lines after the events, of a state
-unfoldable pub tail_text : Setup → Machine → List ℕ
-tail_text setup u = closing_text (stop_of setup u) setup.harts (λ h. (half_at u h).state) (ram_bytes setup u)
+-- the lines after the events, of this state
+abbrev pub tail_of : Setup → Machine → List TailLine
+tail_of setup u =
+    tail_lines (stop_of setup.harts u.devices) setup.harts (λ h. (instruction_at u h).state) (ram_bytes setup u)
 
 -- the trace of a run with these events; its tail is that of the state to which their order leads
 unfoldable pub trace_text : Setup → List Event → List ℕ
-trace_text setup journal = header_text (settings_of setup) ++ events_text journal ++ tail_text setup (reach setup (order_of journal))
+trace_text setup journal = whole_text (settings_of setup) journal (tail_of setup (reach setup (order_of journal)))

@@ -3,17 +3,17 @@ use Rattle.std.specs.Prelude.{◌≡◌, ℕ, ◌+◌, ◌-◌, ◌*◌, ◌<◌
 use Rattle.std.specs.List.{list_all, filter_map, position_or_len, starts_with}
 use Rattle.flex_base.specs.Limits.{is_within, mebibyte}
 use Rattle.flex_base.specs.Word.{is_multiple}
+use Rattle.flex_base.specs.declared.settings.Settings.{Settings}
 use Rattle.flex_top.specs.declared.words.Command.{Command}
 use Rattle.flex_top.specs.declared.words.Given.{Given}
 use Rattle.flex_top.specs.declared.words.Given.TheVariants as as_given
 
--- what `solo` is asked to do: the names of the image and the trace, how many harts, RAM in bytes, how many ends each hart may make, and the harts that make the next events before the rounds
+-- what `solo` is asked to do: the names of the image and the trace, the settings, and the harts that make the next
+-- events before the rounds
 pub record Reading : Type 0 where
   pub image : List ℕ
   pub trace : List ℕ
-  pub harts : ℕ
-  pub ram : ℕ
-  pub budget : ℕ
+  pub settings : Settings
   pub order : List ℕ
 
 -- a name isn't empty and doesn't begin with `-`
@@ -74,29 +74,42 @@ order_option words = given [] order (values (codes "--order=") words)
 
 -- a word that begins with the text of one of the options
 abbrev pub is_option : List ℕ → Bool
-is_option word = starts_with nat_eq word (codes "--harts=") || starts_with nat_eq word (codes "--ram=") || starts_with nat_eq word (codes "--budget=") || starts_with nat_eq word (codes "--order=")
+is_option word = starts_with nat_eq word (codes "--harts=") || starts_with nat_eq word (codes "--ram=")
+    || starts_with nat_eq word (codes "--budget=") || starts_with nat_eq word (codes "--order=")
+
+abbrev pub sized : ℕ → ℕ → ℕ → Settings
+sized harts ram budget = record { harts = harts; ram = ram; budget = budget }
 
 -- all harts together make at most 262,144 ends
 abbrev pub reading_of : List ℕ → List ℕ → Option ℕ → Option ℕ → Option ℕ → Option (List ℕ) → Option Reading
 reading_of image trace (Some harts) (Some mebibytes) (Some budget) (Some order) = if nat_le (harts * budget) 262144
-    then Some (record { image = image; trace = trace; harts = harts; ram = mebibyte * mebibytes; budget = budget; order = order }) else None
+    then Some (record { image = image; trace = trace; settings = sized harts (mebibyte * mebibytes) budget; order = order })
+    else None
 reading_of image trace harts mebibytes budget order = None
 
 -- the options in any order: 1 hart, 16 MiB, 8,192 ends and no order where they aren't given
 abbrev pub with_options : List ℕ → List ℕ → List (List ℕ) → Option Reading
-with_options image trace words = reading_of image trace (number_option (codes "--harts=") 1 32 words) (number_option (codes "--ram=") 16 256 words) (number_option (codes "--budget=") 8192 262144 words) (order_option words)
+with_options image trace words = reading_of image trace (number_option (codes "--harts=") 1 32 words)
+    (number_option (codes "--ram=") 16 256 words)
+    (number_option (codes "--budget=") 8192 262144 words) (order_option words)
 
 abbrev pub is_solo : List ℕ → List ℕ → List ℕ → Bool
 is_solo command image trace = bytes_eq command (codes "solo") && is_name image && is_name trace
 
 -- the word `solo`, two names, and the options
 abbrev pub reading : List (List ℕ) → Option Reading
-reading (command ∷ image ∷ trace ∷ rest) = if is_solo command image trace && list_all is_option rest then with_options image trace rest else None
+reading (command ∷ image ∷ trace ∷ rest) =
+    if is_solo command image trace && list_all is_option rest then with_options image trace rest else None
 reading other = None
 
 -- a command of the code, as its reading
-abbrev pub shown : Command → Reading
-shown command = record { image = command.image.now; trace = command.trace.now; harts = command.harts; ram = command.ram; budget = command.budget; order = map hart_of command.order.now }
+abbrev pub reading_of_command : Command → Reading
+reading_of_command command = record {
+  image = command.image.now;
+  trace = command.trace.now;
+  settings = command.settings;
+  order = map hart_of command.order.now;
+}
 
 -- what the code finds of an option is what its values are
 abbrev pub IsGiven : List (List ℕ) → Given → Type 0
@@ -106,13 +119,13 @@ IsGiven found as_given.Twice = 2 ≤ length found
 
 -- harts, RAM, budget and order are within their limits
 pub record IsLimited (command : Command) : Type 0 where
-  pub some_hart : 1 ≤ command.harts
-  pub harts : command.harts ≤ 32
-  pub some_ram : mebibyte ≤ command.ram
-  pub ram : command.ram ≤ 268435456
-  pub whole : is_multiple command.ram mebibyte ≡ true
-  pub some_budget : 1 ≤ command.budget
-  pub budget : command.budget ≤ 262144
-  pub ends : command.harts * command.budget ≤ 262144
+  pub some_hart : 1 ≤ command.settings.harts
+  pub harts : command.settings.harts ≤ 32
+  pub some_ram : mebibyte ≤ command.settings.ram
+  pub ram : command.settings.ram ≤ 268435456
+  pub whole : is_multiple command.settings.ram mebibyte ≡ true
+  pub some_budget : 1 ≤ command.settings.budget
+  pub budget : command.settings.budget ≤ 262144
+  pub ends : command.settings.harts * command.settings.budget ≤ 262144
   pub order : length command.order.now ≤ 65536
   pub names : All (λ character. hart_of character < 32) command.order.now

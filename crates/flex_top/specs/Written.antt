@@ -1,26 +1,23 @@
 -- A text written to a file in pieces.
-use Rattle.std.specs.Prelude.{◌≡◌, ℕ, ◌<◌, ◌⊎◌, List, [], ◌++◌, length, take, Option, Some, unwrap_or, slice_index_or}
-use Rattle.flex_base.specs.Files.{Files, ChangesFile}
-use Rattle.flex_base.specs.State.{State}
-use Rattle.hart_story.specs.StandsFor.{StandsFor}
-use Rattle.hart_story.specs.declared.hart.Hart.{Hart}
+use Rattle.std.specs.Prelude.{◌≡◌, ℕ, ◌⊎◌, List, [], ◌++◌, take, Option, Some, unwrap_or}
+use Rattle.flex_base.specs.Outside.{Outside, Writes}
 
--- the file gained these bytes
+-- the file gained these bytes; one that gained none may be as it was
 abbrev pub Gains : List ℕ → Option (List ℕ) → Option (List ℕ) → Type 0
-Gains added old new = unwrap_or new [] ≡ unwrap_or old [] ++ added
+Gains added old new = (new ≡ Some (unwrap_or old [] ++ added)) ⊎ ((new ≡ old) × (added ≡ []))
 
 -- of the files the named one gained these bytes
-abbrev pub Grows : Option Files → Option Files → List ℕ → List ℕ → Type 0
-Grows old new name added = ChangesFile old new name (Gains added)
+abbrev pub Grows : Outside → Outside → List ℕ → List ℕ → Type 0
+Grows old new name added = Writes old new name (Gains added)
 
 -- some bytes went to the file, and with what is held they are what was held before and the new bytes
-pub record Passes (old new : Option Files) (name held held' bytes : List ℕ) : Type 0 where
+pub record Passes (old new : Outside) (name held held' bytes : List ℕ) : Type 0 where
   pub added : List ℕ
   pub grows : Grows old new name added
   pub whole : added ++ held' ≡ held ++ bytes
 
 -- some bytes went to the file, the first of what was held before and the new bytes
-pub record PassesPart (old new : Option Files) (name held bytes : List ℕ) : Type 0 where
+pub record PassesPart (old new : Outside) (name held bytes : List ℕ) : Type 0 where
   pub added : List ℕ
   pub rest : List ℕ
   pub grows : Grows old new name added
@@ -32,8 +29,4 @@ Becomes text old new = new ≡ Some text
 
 -- the file is as it was, or the first bytes of this text, maybe none
 abbrev pub BecomesPart : List ℕ → Option (List ℕ) → Option (List ℕ) → Type 0
-BecomesPart text old new = (new ≡ old) ⊎ ((n : ℕ) × (unwrap_or new [] ≡ take n text))
-
--- each hart is in the state of its number
-abbrev pub AllStand : List Hart → (ℕ → State) → Type 0
-AllStand harts state = (h : ℕ) (other : Hart) → h < length harts → StandsFor (slice_index_or harts h other) (state h)
+BecomesPart text old new = (new ≡ old) ⊎ ((n : ℕ) × (new ≡ Some (take n text)))

@@ -4,11 +4,11 @@
 //! the harts over a raw image, in a given order and then in rounds, and writes the trace of the run.
 #![tactic(auto)]
 
+mod image;
 mod memory;
 mod pieces;
 mod player;
 mod prepared;
-mod raw;
 mod solo;
 mod split_run;
 mod status;

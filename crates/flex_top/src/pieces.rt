@@ -24,7 +24,7 @@ impl Model for Pieces {
 
 impl Pieces {
     ghost use Rattle.std.specs.Prelude.{◌≡◌, ◌≤◌, [], length, IfOk, OnOk, OnErr, IsErr};
-    ghost use Rattle.flex_base.specs.Files.{Counts};
+    ghost use Rattle.flex_base.specs.Outside.{OnlyWrites};
     ghost use Rattle.flex_top.specs.Written.{Grows, Passes, PassesPart};
 
     /// Takes the memory for a piece. The error is want of it.
@@ -47,13 +47,11 @@ impl Pieces {
     /// the file has gained the first of the bytes that waited and the new ones.
     pub fn add<O: Outer>(&mut self, outer: &mut O, name: &str, bytes: &[u8]) -> Result<(), Failed>
         requires { length bytes.now ≤ 65536 }
-        ensures ok { OnOk result (Passes (O.written outer.old) (O.written outer.new) name.now self.old self.new bytes.now) }
-        ensures err { OnErr result (PassesPart (O.written outer.old) (O.written outer.new) name.now self.old bytes.now) }
-        ensures cause { Counts (O.write_faults outer.old) (O.write_faults outer.new) (IsErr result) }
-
-        ensures read_faults { O.read_faults outer.new ≡ O.read_faults outer.old }
-        ensures held { O.held outer.new ≡ O.held outer.old }
-        ensures said { O.said outer.new ≡ O.said outer.old }
+        ensures ok { OnOk result (Passes (O.outside outer.old) (O.outside outer.new) name.now
+            self.old self.new bytes.now) }
+        ensures err { OnErr result (PassesPart (O.outside outer.old) (O.outside outer.new) name.now
+            self.old bytes.now) }
+        ensures frame { OnlyWrites (O.outside outer.old) (O.outside outer.new) (IsErr result) }
     {
         let left = PIECE - self.held.len();
         if bytes.len() < left {
@@ -77,13 +75,9 @@ impl Pieces {
     /// gained the first bytes of it.
     pub fn flush<O: Outer>(&mut self, outer: &mut O, name: &str) -> Result<(), Failed>
         ensures empty { self.new ≡ [] }
-        ensures ok { OnOk result (Grows (O.written outer.old) (O.written outer.new) name.now self.old) }
-        ensures err { OnErr result (PassesPart (O.written outer.old) (O.written outer.new) name.now self.old []) }
-        ensures cause { Counts (O.write_faults outer.old) (O.write_faults outer.new) (IsErr result) }
-
-        ensures read_faults { O.read_faults outer.new ≡ O.read_faults outer.old }
-        ensures held { O.held outer.new ≡ O.held outer.old }
-        ensures said { O.said outer.new ≡ O.said outer.old }
+        ensures ok { OnOk result (Grows (O.outside outer.old) (O.outside outer.new) name.now self.old) }
+        ensures err { OnErr result (PassesPart (O.outside outer.old) (O.outside outer.new) name.now self.old []) }
+        ensures frame { OnlyWrites (O.outside outer.old) (O.outside outer.new) (IsErr result) }
     {
         if self.held.is_empty() {
             return Ok(());

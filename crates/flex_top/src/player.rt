@@ -1,27 +1,28 @@
-ghost use Rattle.std.specs.Prelude.{◌≡◌, ℕ, ◌^◌, ◌<◌, List, ◌++◌, map, length, IfOk};
+ghost use Rattle.std.specs.Prelude.{◌≡◌, ◌++◌, ◌<◌, ◌≤◌, ◌^◌, List, ℕ, length, IfOk};
+ghost use Rattle.std.specs.List.{list_all};
 ghost use Rattle.flex_base.specs.Setup.{Setup};
 ghost use Rattle.flex_base.specs.Unsplit.{Machine, begin, hart_numbers};
-ghost use Rattle.flex_top.specs.Words.{hart_of};
+ghost use Rattle.hart_story.specs.Progress.{is_done};
 ghost use Rattle.flex_top.specs.Play.{AreStarted};
+ghost use Rattle.flex_top.specs.declared.player.Stuck.TheVariants as stuck;
 
 use crate::memory::act;
 use crate::split_run::SplitRun;
-use crate::words::hart_named;
-use flex_base::{HartId, Layout, What};
+use crate::text::Tail;
+use flex_base::{HartId, Layout, Settings, Stop, What};
 use hart_story::{Hart, Need, Progress, finish, give, need};
 use mem_lines::Lines;
 use std::alloc::{AllocError, Global};
 
-/// The harts that are played over one bank of RAM, and the split run so far.
+/// All harts of a run over one bank of RAM, and the split run so far.
 #[derive(Drop)]
 pub(crate) struct Player {
-    pub(crate) layout: Layout,
-    pub(crate) budget: u64,
+    settings: Settings,
     /// Each hart at the start of its instruction.
-    pub(crate) harts: Vec<Hart>,
+    harts: Vec<Hart>,
     /// How far each hart is in its instruction.
-    pub(crate) progress: Vec<Progress>,
-    pub(crate) lines: Lines,
+    progress: Vec<Progress>,
+    lines: Lines,
     pub(crate) run: SplitRun,
 }
 
@@ -34,30 +35,47 @@ pub(crate) enum Step {
     Ended,
     /// The hart has nothing left to do.
     Over,
-    /// The next event, at this `pc`, isn't built.
+}
+
+/// Why a run stopped before its end.
+#[derive(Clone, Copy)]
+pub(crate) enum Stuck {
+    OutOfMemory,
+    /// The next event, of a hart with this `pc`, isn't built.
     Unbuilt(u64),
 }
 
+impl From<AllocError> for Stuck {
+    ghost from_gives = { λ _ s. s ≡ stuck.OutOfMemory };
+
+    fn from(_error: AllocError) -> Stuck {
+        Stuck::OutOfMemory
+    }
+}
+
 impl Player {
-    ghost use Rattle.flex_top.specs.Play.{IsAt, IsStarted, AfterStep, AfterTurn, AfterRound, AfterName, AfterOrder, IsNearer, Playing, Played};
+    ghost use Rattle.flex_base.specs.DevicesSoFar.{stop_of};
+    ghost use Rattle.flex_base.specs.Rounds.{turn_of, names_played};
+    ghost use Rattle.flex_base.specs.Built.{unbuilt_at, first_unbuilt};
+    ghost use Rattle.std.specs.Prelude.{Some};
+    ghost use Rattle.flex_top.specs.Trace.{tail_of};
+    ghost use Rattle.flex_top.specs.Play.{Comes, IsAt, IsStarted, AfterStep, IsStepped, IsStuck, IsTurned, IsNearer, Playing, IsReached};
 
     // The harts at their start, at this entry, over this RAM.
     pub(crate) fn start(
         alloc: Global,
-        layout: Layout,
-        budget: u64,
+        settings: &Settings,
         entry: u64,
         lines: Lines,
     ) -> Result<Player, AllocError>
-        ensures { IfOk result (λ player. IsStarted player layout budget entry lines) }
+        ensures { IfOk result (λ player. IsStarted player settings.now entry lines) }
     {
-        let harts = started(alloc, layout.harts, entry)?;
+        let harts = started(alloc, settings.harts, entry)?;
         let begun = Progress::begin();
-        let progress = vec![in alloc; begun; layout.harts as usize]?;
-        let run = SplitRun::new(alloc, layout.harts)?;
+        let progress = vec![in alloc; begun; settings.harts as usize]?;
+        let run = SplitRun::new(alloc, settings.harts)?;
         Ok(Player {
-            layout,
-            budget,
+            settings: *settings,
             harts,
             progress,
             lines,
@@ -65,122 +83,132 @@ impl Player {
         })
     }
 
-    // Makes the next event of a hart, where there is one that is built.
-    pub(crate) fn step(&mut self, h: usize) -> Result<Step, AllocError>
+    // Plays the order, of hart numbers, and then the rounds until the run has ended. Each round
+    // ends an instruction of each hart that has ends left, and one more lets the last harts retire.
+    pub(crate) fn play(&mut self, order: &[u8]) -> Result<(), Stuck>
+        requires few { self.old.settings.budget < 2 ^ 32 }
+        requires at { (setup : Setup) × IsAt setup (begin setup) self.old }
+        ensures { (setup : Setup) → IsAt setup (begin setup) self.old → Comes result
+            (λ done. IsReached setup (names_played setup order.now) self.new)
+            (λ pc. first_unbuilt setup (begin setup) (names_played setup order.now) ≡ Some pc) }
+    {
+        self.follow(order)?;
+        'rounds: for _ in 0..self.settings.budget + 1 {
+            self.round()?;
+        }
+        Ok(())
+    }
+
+    // Makes these the lines of the trace after the events so far.
+    pub(crate) fn fill_tail(&self, tail: &mut Tail)
+        requires { (setup : Setup) × (u : Machine) × IsAt setup u self.now }
+        ensures { (setup : Setup) (u : Machine) → IsAt setup u self.now → tail.new ≡ tail_of setup u }
+    {
+        tail.fill(self.stop(), &self.harts, self.lines.bytes());
+    }
+
+    // Why the run has ended, where it has.
+    fn stop(&self) -> Option<Stop>
+        ensures { (setup : Setup) (u : Machine) → IsAt setup u self.now → result ≡ stop_of setup.harts u.devices }
+    {
+        if all_done(&self.progress) {
+            Some(Stop::Budget)
+        } else {
+            None
+        }
+    }
+
+    // The harts make their next events in this order.
+    fn follow(&mut self, order: &[u8]) -> Result<(), Stuck>
+        requires at { (setup : Setup) × IsAt setup (begin setup) self.old }
+        ensures { (setup : Setup) → IsAt setup (begin setup) self.old → Comes result
+            (λ done. IsReached setup order.now self.new)
+            (λ pc. first_unbuilt setup (begin setup) order.now ≡ Some pc) }
+    {
+        for h in order {
+            self.next(*h)?;
+        }
+        Ok(())
+    }
+
+    // The hart of this number makes its next event. A number without a hart is passed over.
+    fn next(&mut self, h: u8) -> Result<(), Stuck>
+        requires at { (setup : Setup) × (u : Machine) × IsAt setup u self.old }
+        ensures { (setup : Setup) (u : Machine) → IsAt setup u self.old → Comes result
+            (λ done. IsStepped setup u h self.new) (λ pc. unbuilt_at setup u h ≡ Some pc) }
+    {
+        if (h as usize) < self.harts.len() {
+            self.step(h as usize)?;
+        }
+        Ok(())
+    }
+
+    // Each hart makes its turn, in rising order.
+    fn round(&mut self) -> Result<(), Stuck>
+        requires { (setup : Setup) × (order : List ℕ) × (done : List ℕ) × (rest : List ℕ)
+            × Playing setup order done (hart_numbers setup ++ rest) self.old }
+        ensures { (setup : Setup) (order done rest : List ℕ)
+            → Playing setup order done (hart_numbers setup ++ rest) self.old → Comes result
+            (λ round. Playing setup order (done ++ hart_numbers setup) rest self.new)
+            (λ pc. first_unbuilt setup (begin setup) (names_played setup order) ≡ Some pc) }
+    {
+        for h in 0..self.harts.len() {
+            self.turn(h)?;
+        }
+        Ok(())
+    }
+
+    // Makes a hart's events up to and including its next end.
+    pub(crate) fn turn(&mut self, h: usize) -> Result<(), Stuck>
         requires hart { h < length self.old.harts.items }
         requires at { (setup : Setup) × (u : Machine) × IsAt setup u self.old }
-        ensures after { IfOk result (λ came. (setup : Setup) (u : Machine) → IsAt setup u self.old → AfterStep setup u h came self.new) }
+        ensures { (setup : Setup) (u : Machine) → IsAt setup u self.old → Comes result
+            (λ done. IsTurned setup u h self.new)
+            (λ pc. first_unbuilt setup u (turn_of setup u h) ≡ Some pc) }
+    {
+        match self.step(h)? {
+            Step::Accessed => self.turn(h),
+            Step::Ended => Ok(()),
+            Step::Over => Ok(()),
+        }
+    }
+
+    // Makes the next event of a hart, where there is one.
+    pub(crate) fn step(&mut self, h: usize) -> Result<Step, Stuck>
+        requires hart { h < length self.old.harts.items }
+        requires at { (setup : Setup) × (u : Machine) × IsAt setup u self.old }
+        ensures after { (setup : Setup) (u : Machine) → IsAt setup u self.old → Comes result
+            (λ came. AfterStep setup u h came self.new) (λ pc. IsStuck setup u h pc) }
         ensures nearer { IfOk result (λ came. IsNearer h came self.old self.new) }
     {
         let hart = HartId(h as u8);
-        match need(&self.harts[h], &self.progress[h], &self.layout, self.budget) {
-            Need::Ask(access, _) => {
+        let layout = Layout {
+            harts: self.settings.harts,
+            ram: self.settings.ram,
+        };
+        let budget = self.settings.budget;
+        match need(&self.harts[h], &self.progress[h], &layout, budget) {
+            Need::Ask(access, class) => {
                 let told = act(&mut self.lines, hart, &access);
                 give(
                     &self.harts[h],
                     &mut self.progress[h],
-                    &self.layout,
-                    self.budget,
+                    &layout,
+                    budget,
                     told,
                 );
-                self.run.add(hart, What::Acc(access, told))?;
+                self.run.add(hart, class, What::Acc(access, told))?;
                 Ok(Step::Accessed)
             }
-            Need::Finish(_) => {
-                let part = finish(
-                    &mut self.harts[h],
-                    self.progress[h],
-                    &self.layout,
-                    self.budget,
-                );
+            Need::Finish(class) => {
+                let part = finish(&mut self.harts[h], self.progress[h], &layout, budget);
                 self.progress[h] = Progress::begin();
-                self.run.add(hart, What::End(part))?;
+                self.run.add(hart, class, What::End(part))?;
                 Ok(Step::Ended)
             }
             Need::Over => Ok(Step::Over),
-            Need::Unbuilt => Ok(Step::Unbuilt(self.harts[h].regs.pc)),
+            Need::Unbuilt => Err(Stuck::Unbuilt(self.harts[h].regs.pc)),
         }
-    }
-
-    // Makes a hart's events up to and including its next end, or to one that isn't built, whose
-    // `pc` it gives.
-    pub(crate) fn turn(&mut self, h: usize) -> Result<Option<u64>, AllocError>
-        requires hart { h < length self.old.harts.items }
-        requires at { (setup : Setup) × (u : Machine) × IsAt setup u self.old }
-        ensures { IfOk result (λ pc. (setup : Setup) (u : Machine) → IsAt setup u self.old → AfterTurn setup u h pc self.new) }
-    {
-        match self.step(h)? {
-            Step::Accessed => self.turn(h),
-            Step::Ended => Ok(None),
-            Step::Over => Ok(None),
-            Step::Unbuilt(pc) => Ok(Some(pc)),
-        }
-    }
-
-    // Each hart makes its turn, in rising order.
-    fn round(&mut self) -> Result<Option<u64>, AllocError>
-        requires { (setup : Setup) × (order : List ℕ) × (done : List ℕ) × (rest : List ℕ) × Playing setup order done (hart_numbers setup ++ rest) self.old }
-        ensures { IfOk result (λ pc. (setup : Setup) (order done rest : List ℕ) → Playing setup order done (hart_numbers setup ++ rest) self.old → AfterRound setup order (done ++ hart_numbers setup) rest pc self.new) }
-    {
-        for h in 0..self.harts.len() {
-            match self.turn(h)? {
-                None => {}
-                Some(pc) => return Ok(Some(pc)),
-            }
-        }
-        Ok(None)
-    }
-
-    // The hart that the character names makes its next event. A name without a hart is passed over.
-    fn name(&mut self, character: u8) -> Result<Option<u64>, AllocError>
-        requires at { (setup : Setup) × (u : Machine) × IsAt setup u self.old }
-        ensures { IfOk result (λ pc. (setup : Setup) (u : Machine) → IsAt setup u self.old → AfterName setup u (hart_of character) pc self.new) }
-    {
-        let h = hart_named(character) as usize;
-        if h >= self.harts.len() {
-            return Ok(None);
-        }
-        match self.step(h)? {
-            Step::Accessed => Ok(None),
-            Step::Ended => Ok(None),
-            Step::Over => Ok(None),
-            Step::Unbuilt(pc) => Ok(Some(pc)),
-        }
-    }
-
-    // The harts that the characters name make their next events.
-    fn follow(&mut self, order: &[u8]) -> Result<Option<u64>, AllocError>
-        requires at { (setup : Setup) × IsAt setup (begin setup) self.old }
-        ensures { IfOk result (λ pc. (setup : Setup) → IsAt setup (begin setup) self.old → AfterOrder setup (map hart_of order.now) pc self.new) }
-    {
-        for character in order {
-            match self.name(*character)? {
-                None => {}
-                Some(pc) => return Ok(Some(pc)),
-            }
-        }
-        Ok(None)
-    }
-
-    // Plays the order and then the rounds until the run has ended, or to an event that isn't
-    // built, whose `pc` it gives. Each round ends an instruction of each hart that has ends left,
-    // and one more lets the last harts retire.
-    pub(crate) fn play(&mut self, order: &[u8]) -> Result<Option<u64>, AllocError>
-        requires few { self.old.budget < 2 ^ 32 }
-        requires at { (setup : Setup) × IsAt setup (begin setup) self.old }
-        ensures { IfOk result (λ pc. (setup : Setup) → IsAt setup (begin setup) self.old → Played setup (map hart_of order.now) pc self.new) }
-    {
-        match self.follow(order)? {
-            None => {}
-            Some(pc) => return Ok(Some(pc)),
-        }
-        'rounds: for _ in 0..self.budget + 1 {
-            match self.round()? {
-                None => {}
-                Some(pc) => return Ok(Some(pc)),
-            }
-        }
-        Ok(None)
     }
 }
 
@@ -193,4 +221,16 @@ fn started(alloc: Global, count: u8, entry: u64) -> Result<Vec<Hart>, AllocError
         harts.push(Hart::start(HartId(h), entry))?;
     }
     Ok(harts)
+}
+
+fn all_done(progress: &[Progress]) -> bool
+    ensures { result ≡ list_all is_done progress.now }
+{
+    progress.iter().all(|p| is_done(p))
+}
+
+fn is_done(progress: &Progress) -> bool
+    ensures { result ≡ is_done progress.now }
+{
+    matches!(progress, Progress::Over)
 }

@@ -1,15 +1,16 @@
-ghost use Rattle.std.specs.Prelude.{◌≡◌, ◌≢◌, [], map};
-ghost use Rattle.flex_base.specs.Journal.{console};
-ghost use Rattle.flex_base.specs.Files.{Counts, ChangesFile};
-ghost use Rattle.flex_top.specs.Answer.{setup_of, answer_of_file, IsAnswer, IsWhole, journal_of, trace_of};
-ghost use Rattle.flex_top.specs.Words.{hart_of, IsLimited};
-ghost use Rattle.flex_top.specs.Written.{Becomes, BecomesPart};
+ghost use Rattle.std.specs.Prelude.{◌≡◌, ◌≢◌, ℕ};
+ghost use Rattle.flex_base.specs.Outside.{OnlyWrites, Writes};
+ghost use Rattle.flex_top.specs.Answer.{loaded, answer_of, outcome_of};
+ghost use Rattle.flex_top.specs.Does.{IsAnswer, Leaves, LeavesPart};
+ghost use Rattle.flex_top.specs.Words.{reading_of_command, IsLimited};
 
-use crate::prepared::prepare;
-use crate::raw::is_elf;
+use crate::image::{Refusal, image_of};
+use crate::player::Stuck;
+use crate::prepared::{Prepared, prepare};
 use crate::status::{ImageFault, Status};
+use crate::trace_file::write_trace;
 use crate::words::Command;
-use flex_base::{Outer, Settings};
+use flex_base::{Failed, Outer};
 use std::alloc::Global;
 
 // Plays the image in the order that the command gives, and writes the trace.
@@ -20,32 +21,54 @@ pub(crate) fn solo<O: Outer>(
     outer: &mut O,
 ) -> Status
     requires { IsLimited command.now }
-    ensures answer { IsAnswer (answer_of_file file.items command.now.harts command.now.ram command.now.budget (map hart_of command.now.order.now)) result }
-    ensures not_read { result ≢ Status.ReadFault }
-    ensures trace { result ≡ Status.Ended → ChangesFile (O.written outer.old) (O.written outer.new) command.now.trace.now (Becomes (trace_of (setup_of file.items command.now.harts command.now.ram command.now.budget) (map hart_of command.now.order.now))) }
-    ensures cut { result ≡ Status.WriteFault → ChangesFile (O.written outer.old) (O.written outer.new) command.now.trace.now (BecomesPart (trace_of (setup_of file.items command.now.harts command.now.ram command.now.budget) (map hart_of command.now.order.now))) }
-    ensures whole { result ≡ Status.Ended → IsWhole (setup_of file.items command.now.harts command.now.ram command.now.budget) (map hart_of command.now.order.now) }
-    ensures quiet { result ≡ Status.Ended → console (journal_of (setup_of file.items command.now.harts command.now.ram command.now.budget) (map hart_of command.now.order.now)) ≡ [] }
-    ensures nothing { result ≢ Status.Ended → result ≢ Status.WriteFault → O.written outer.new ≡ O.written outer.old }
-    ensures cause { Counts (O.write_faults outer.old) (O.write_faults outer.new) (result ≡ Status.WriteFault) }
+    ensures answer { let r = reading_of_command command.now in
+        IsAnswer (answer_of (loaded file.items r.settings.ram) r.settings r.order) result }
+    ensures ended { let r = reading_of_command command.now in
+        result ≡ Status.Ended → Leaves (outcome_of (loaded file.items r.settings.ram) r)
+            (O.outside outer.old) (O.outside outer.new) }
+    ensures cut { let r = reading_of_command command.now in
+        result ≡ Status.WriteFault → LeavesPart (outcome_of (loaded file.items r.settings.ram) r)
+            (O.outside outer.old) (O.outside outer.new) }
 
-    ensures read_faults { O.read_faults outer.new ≡ O.read_faults outer.old }
-    ensures held { O.held outer.new ≡ O.held outer.old }
-    ensures said { O.said outer.new ≡ O.said outer.old }
+    ensures nothing { result ≢ Status.Ended → result ≢ Status.WriteFault
+        → (O.outside outer.new).written ≡ (O.outside outer.old).written }
+    ensures others { Writes (O.outside outer.old) (O.outside outer.new) command.now.trace.now (λ was is. Unit {0}) }
+    ensures frame { OnlyWrites (O.outside outer.old) (O.outside outer.new) (result ≡ Status.WriteFault) }
+    ensures not_read { result ≢ Status.ReadFault }
+    ensures not_long { (n : ℕ) → result ≢ Status.ImageRefused (ImageFault.TooLong n) }
 {
-    if is_elf(&file) {
-        return Status::Unbuilt(None);
-    }
-    if file.len() as u64 > command.ram {
-        return Status::ImageRefused(ImageFault::SegmentOutsideRam(0));
-    }
-    let settings = Settings {
-        harts: command.harts,
-        ram: command.ram,
-        budget: command.budget,
+    let image = match image_of(alloc, file, command.settings.ram) {
+        Ok(image) => image,
+        Err(Refusal::Elf) => return Status::Unbuilt(None),
+        Err(Refusal::OutsideRam) => {
+            return Status::ImageRefused(ImageFault::SegmentOutsideRam(0));
+        }
+        Err(Refusal::OutOfMemory) => return Status::OutOfMemory,
     };
-    match prepare(alloc, file, &settings) {
-        Ok(prepared) => prepared.run(command.order, command.trace, outer),
-        Err(_) => Status::OutOfMemory,
+    let Prepared {
+        mut player,
+        order,
+        mut pieces,
+        mut tail,
+    } = match prepare(alloc, &image, &command.settings, command.order) {
+        Ok(prepared) => prepared,
+        Err(_) => return Status::OutOfMemory,
+    };
+    match player.play(&order) {
+        Ok(()) => {}
+        Err(Stuck::Unbuilt(pc)) => return Status::Unbuilt(Some(pc)),
+        Err(Stuck::OutOfMemory) => return Status::OutOfMemory,
+    }
+    player.fill_tail(&mut tail);
+    match write_trace(
+        outer,
+        command.trace,
+        &mut pieces,
+        &command.settings,
+        &player.run.events,
+        tail.lines(),
+    ) {
+        Ok(()) => Status::Ended,
+        Err(Failed) => Status::WriteFault,
     }
 }

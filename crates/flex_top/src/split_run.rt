@@ -1,9 +1,9 @@
 ghost use Rattle.std.specs.Prelude.{◌≡◌, ◌++◌, ◌∷◌, [], ◌<◌, IfOk, OnOk, length};
 ghost use Rattle.flex_base.specs.Classes.{class_of_what, default_plan};
 ghost use Rattle.flex_base.specs.Unsplit.{does};
-ghost use Rattle.flex_base.specs.Split.{part, unparted, numbered};
+ghost use Rattle.flex_base.specs.Split.{split_event, first_split, with_number};
 
-use flex_base::{Class, Engine, Event, HartId, What, access_class, capable};
+use flex_base::{Class, Engine, Event, HartId, What, capable};
 use std::alloc::{AllocError, Global};
 
 /// The split run so far: the engine that holds each hart, and the numbered events with the
@@ -15,11 +15,11 @@ pub(crate) struct SplitRun {
 }
 
 impl SplitRun {
-    ghost use Rattle.flex_top.specs.Splitting.{parted_by};
+    ghost use Rattle.flex_top.specs.Splitting.{splitting_of};
 
     // Nothing has happened, and each hart is in the engine of fetch.
     pub(crate) fn new(alloc: Global, harts: u8) -> Result<SplitRun, AllocError>
-        ensures { IfOk result (λ run. parted_by run ≡ unparted default_plan harts) }
+        ensures { IfOk result (λ run. splitting_of run ≡ first_split default_plan harts) }
     {
         let first = engine_of(Class::Fetch);
         let engines = vec![in alloc; first; harts as usize]?;
@@ -29,15 +29,18 @@ impl SplitRun {
         })
     }
 
-    // Adds what the hart did, with a handover before it where that is another engine's work.
-    pub(crate) fn add(&mut self, hart: HartId, what: What) -> Result<(), AllocError>
-        requires { hart.0 < length self.old.engines.items }
-        ensures part { OnOk result (parted_by self.new ≡ part default_plan (parted_by self.old) (does hart.0 what)) }
+    // Adds what the hart did, which is of this class, with a handover before it where that is
+    // another engine's work.
+    pub(crate) fn add(&mut self, hart: HartId, class: Class, what: What) -> Result<(), AllocError>
+        requires hart { hart.0 < length self.old.engines.items }
+        requires class { class ≡ class_of_what what }
+        ensures event { OnOk result (splitting_of self.new
+            ≡ split_event default_plan (splitting_of self.old) (does hart.0 what)) }
         ensures size { OnOk result (length self.new.engines.items ≡ length self.old.engines.items) }
     {
         let h = hart.0 as usize;
         let from = self.engines[h];
-        let to = engine_of(class_of(&what));
+        let to = engine_of(class);
         if from != to {
             number(&mut self.events, hart, from, What::Handover(to))?;
         }
@@ -54,7 +57,7 @@ fn number(
     engine: Engine,
     what: What,
 ) -> Result<(), AllocError>
-    ensures { OnOk result (events.new.items ≡ numbered events.old.items hart.0 engine what) }
+    ensures { OnOk result (events.new.items ≡ with_number events.old.items hart.0 engine what) }
 {
     let event = Event {
         number: events.len() as u64,
@@ -66,19 +69,9 @@ fn number(
     Ok(())
 }
 
-fn class_of(what: &What) -> Class
-    ensures { result ≡ class_of_what what.now }
-{
-    match what {
-        What::Acc(access, _) => access_class(access),
-        What::End(part) => part.class,
-        What::Handover(_) => Class::Fetch,
-    }
-}
-
-// The engine that the default plan names.
+// The engine that the default plan names, for each hart the same.
 fn engine_of(class: Class) -> Engine
-    ensures { result ≡ default_plan class }
+    ensures { result ≡ default_plan 0 class }
 {
     if capable(class, Engine::Pipe) {
         Engine::Pipe

@@ -1,7 +1,6 @@
-ghost use Rattle.std.specs.Prelude.{◌≡◌, ◌+◌, ◌≤◌, ◌++◌, length, IfOk};
-ghost use Rattle.flex_top.specs.Status.{fault_number, refusal, meaning, is_ended, status_code, status_text};
+ghost use Rattle.std.specs.Prelude.{◌≡◌, ◌≤◌, length, IfOk};
+ghost use Rattle.flex_top.specs.Status.{refusal, meaning, is_ended, status_code, status_text};
 
-use crate::text::put::{put, put_small};
 use flex_base::Line;
 use std::alloc::{AllocError, Global};
 
@@ -54,9 +53,9 @@ pub fn status_text(alloc: Global, status: &Status) -> Result<Vec<u8>, AllocError
 {
     let mut line = Line::new();
     if !is_ended(status) {
-        put(&mut line, b"flexemu: ");
-        put_meaning(&mut line, status);
-        put(&mut line, b"\n");
+        line.push(b"flexemu: ");
+        line.push(meaning(status));
+        line.push(b"\n");
     }
     Vec::from_slice(alloc, line.bytes())
 }
@@ -67,38 +66,29 @@ fn is_ended(status: &Status) -> bool
     matches!(status, Status::Ended)
 }
 
-fn put_meaning(line: &mut Line, status: &Status)
-    requires { length line.old + 17 ≤ 128 }
-    ensures text { line.new ≡ line.old ++ meaning status.now }
-    ensures room { length line.new ≤ length line.old + 17 }
+fn meaning(status: &Status) -> &'static [u8]
+    ensures text { result.now ≡ meaning status.now }
+    ensures short { length result.now ≤ 17 }
 {
     match status {
-        Status::Ended => {}
-        Status::Usage => put(line, b"usage"),
-        Status::ReadFault => put(line, b"read fault"),
-        Status::ImageRefused(fault) => put_refusal(line, *fault),
-        Status::OutOfMemory => put(line, b"out of memory"),
-        Status::WriteFault => put(line, b"write fault"),
-        Status::Unbuilt(_) => put(line, b"unbuilt"),
+        Status::Ended => b"",
+        Status::Usage => b"usage",
+        Status::ReadFault => b"read fault",
+        Status::ImageRefused(fault) => refusal(*fault),
+        Status::OutOfMemory => b"out of memory",
+        Status::WriteFault => b"write fault",
+        Status::Unbuilt(_) => b"unbuilt",
     }
 }
 
-fn put_refusal(line: &mut Line, fault: ImageFault)
-    requires { length line.old + 17 ≤ 128 }
-    ensures text { line.new ≡ line.old ++ refusal fault }
-    ensures room { length line.new ≤ length line.old + 17 }
-{
-    put(line, b"image refused ");
-    put_small(line, fault_number(fault));
-}
-
-// The fault's number among all faults that an image can have.
-fn fault_number(fault: ImageFault) -> u8
-    ensures { result ≡ fault_number fault }
+// The fault, by its number among all faults that an image can have.
+fn refusal(fault: ImageFault) -> &'static [u8]
+    ensures text { result.now ≡ refusal fault }
+    ensures short { length result.now ≤ 17 }
 {
     match fault {
-        ImageFault::SegmentOutsideRam(_) => 9,
-        ImageFault::TooLong(_) => 11,
+        ImageFault::SegmentOutsideRam(_) => b"image refused 9",
+        ImageFault::TooLong(_) => b"image refused 11",
     }
 }
 

@@ -1,8 +1,9 @@
 mod programs;
 
-ghost use Rattle.std.specs.Prelude.{◌≡◌, ℕ, List, map, Some, IsSomeAnd, string_bytes};
+ghost use Rattle.std.specs.Prelude.{◌≡◌, map, Some, IsSomeAnd, string_bytes};
 ghost use Rattle.flex_top.specs.Words.{Reading, reading};
-ghost use Rattle.flex_top.specs.Answer.{expected, IsEnded};
+ghost use Rattle.flex_top.specs.Answer.{expected};
+ghost use Rattle.flex_top.specs.Does.{IsEnded};
 
 use super::*;
 use flex_base::{MemoryOuter, Outer, SteadyOuter, Text};
@@ -100,7 +101,7 @@ ram 6738a083eaf81f79df5201d2dbefd9bcd382520c8f8182e9bb6f6a27fdd584e3
 done
 ";
 
-// The words of a line, parted by one space each.
+// The words of a line, split_run by one space each.
 pub(crate) fn words_of(alloc: Global, line: &str) -> Result<Vec<String>, AllocError> {
     let mut words = Vec::new(alloc);
     for word in line.split(' ') {
@@ -127,8 +128,9 @@ fn run(
 
 // What the words come to over an outside that never fails: a run that is to end ends, or memory runs out.
 fn run_steadily(alloc: Global, words: &[String], outer: &mut SteadyOuter) -> Status
-    ensures { (r : Reading) (file : List ℕ) → reading (map string_bytes words.now) ≡ Some r → IsSomeAnd (⟦<SteadyOuter as Outer>⟧.held outer.old) (λ files. files r.image ≡ Some file)
-        → expected file r.harts r.ram r.budget r.order ≡ Status.Ended → IsEnded result }
+    ensures { (r : Reading) → reading (map string_bytes words.now) ≡ Some r
+        → IsSomeAnd (⟦<SteadyOuter as Outer>⟧.outside outer.old).held (λ files. expected r files ≡ Status.Ended)
+        → IsEnded result }
 {
     flex_top(alloc, words, outer)
 }

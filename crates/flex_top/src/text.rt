@@ -1,16 +1,16 @@
-//! The lines of the trace text.
+//! The trace text: the lines of events, and the lines after them.
 
 mod access;
 mod event;
-mod hart;
 mod header;
-pub(crate) mod put;
+mod put;
 mod tail;
+mod tail_text;
 
 pub use event::event_line;
-pub use hart::{SHOWN_CSRS, csr_line, hart_line, register_line};
 pub use header::header_line;
-pub use tail::{digest_line, stop_line};
+pub use tail::Tail;
+pub use tail_text::{TailLine, tail_line};
 
 #[cfg(test)]
 mod tests;

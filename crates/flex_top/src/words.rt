@@ -1,6 +1,9 @@
-ghost use Rattle.std.specs.Prelude.{◌≡◌, ◌<◌, ◌≤◌, List, ℕ, [], ◌∷◌, ◌++◌, map, length, Some, None, All, option_map, IfSome, if◌then◌else◌, string_bytes};
+ghost use Rattle.std.specs.Prelude.{◌≡◌, ◌<◌, ◌≤◌, List, ℕ, [], ◌∷◌, ◌++◌, map, length, Some, None, All, option_map, IfOk, IfSome, if◌then◌else◌, string_bytes};
 ghost use Rattle.std.specs.List.{list_all};
-ghost use Rattle.flex_top.specs.Words.{reading, with_options, shown, is_name, is_option, is_digit, number_of, number, hart_of, is_order, value_of, values, number_option, order_option, is_solo, IsGiven, IsLimited};
+ghost use Rattle.flex_top.specs.Words.{reading, with_options, reading_of_command, is_name, is_option, is_digit, number_of, number, hart_of, is_order, value_of, values, number_option, order_option, is_solo, IsGiven, IsLimited};
+
+use flex_base::Settings;
+use std::alloc::{AllocError, Global};
 
 /// What `solo` is asked to do.
 #[derive(Clone, Copy, Debug)]
@@ -9,12 +12,8 @@ pub struct Command<'a> {
     pub image: &'a str,
     /// The name of the file that the trace goes to.
     pub trace: &'a str,
-    /// How many harts there are, 1 to 32.
-    pub harts: u8,
-    /// The size of RAM in bytes, a multiple of 1 MiB, 1 to 256 MiB.
-    pub ram: u64,
-    /// How many ends each hart may make; all together make at most 262,144.
-    pub budget: u64,
+    /// The size of the run. All harts together make at most 262,144 ends.
+    pub settings: Settings,
     /// Which harts make the next events before the rounds: at most 65,536 characters, each of
     /// which names a hart.
     pub order: &'a [u8],
@@ -33,7 +32,7 @@ const MEBIBYTE: u64 = 1_048_576;
 /// The command that these words are: `solo IMAGE TRACE`, and then any of the options `--harts=`,
 /// `--ram=`, `--budget=` and `--order=`, each at most once. Other words have no reading.
 pub fn read_words(words: &[String]) -> Option<Command<'_>>
-    ensures reading { option_map shown result ≡ reading (map string_bytes words.now) }
+    ensures reading { option_map reading_of_command result ≡ reading (map string_bytes words.now) }
     ensures limits { IfSome result IsLimited }
 {
     match words {
@@ -85,7 +84,8 @@ fn is_option(word: &[u8]) -> bool
 }
 
 fn with_options<'a>(image: &'a str, trace: &'a str, words: &'a [String]) -> Option<Command<'a>>
-    ensures reading { option_map shown result ≡ with_options image.now trace.now (map string_bytes words.now) }
+    ensures reading { option_map reading_of_command result
+        ≡ with_options image.now trace.now (map string_bytes words.now) }
     ensures limits { IfSome result IsLimited }
 {
     let harts = number_option(b"--harts=", 1, 32, words)?;
@@ -95,12 +95,15 @@ fn with_options<'a>(image: &'a str, trace: &'a str, words: &'a [String]) -> Opti
     if harts * budget > 262_144 {
         return None;
     }
-    Some(Command {
-        image,
-        trace,
+    let settings = Settings {
         harts: harts as u8,
         ram: MEBIBYTE * mebibytes,
         budget,
+    };
+    Some(Command {
+        image,
+        trace,
+        settings,
         order,
     })
 }
@@ -207,10 +210,17 @@ fn is_order(text: &[u8]) -> bool
     true
 }
 
+/// The numbers of the harts that the characters name, in order. The error is want of memory.
+pub(crate) fn harts_named(alloc: Global, order: &[u8]) -> Result<Vec<u8>, AllocError>
+    ensures { IfOk result (λ harts. harts.items ≡ map hart_of order.now) }
+{
+    order.iter().map(|name| hart_named(*name)).collect(alloc)
+}
+
 /// The hart that a character names: 0 to 9 by a digit, 10 to 31 by a letter from `a` to `v`. Another
 /// character names none, which is 32.
 #[tactic(auto, using(crate::proofs::WordsLemmas::harts_named))]
-pub(crate) fn hart_named(character: u8) -> u8
+fn hart_named(character: u8) -> u8
     ensures { result ≡ hart_of character }
 {
     match character {
@@ -221,162 +231,4 @@ pub(crate) fn hart_named(character: u8) -> u8
 }
 
 #[cfg(test)]
-mod tests {
-    use super::*;
-    use crate::tests::words_of;
-    use std::alloc::{AllocError, Global};
-
-    #[test]
-    fn reads_the_words(rt: HostRuntime) -> Result<(), AllocError> {
-        for (line, harts, ram, budget, order) in [
-            ("solo img out", 1, 16, 8192, ""),
-            ("solo img out --harts=32", 32, 16, 8192, ""),
-            ("solo img out --ram=1", 1, 1, 8192, ""),
-            ("solo img out --budget=1", 1, 16, 1, ""),
-            ("solo img out --order=09av", 1, 16, 8192, "09av"),
-            ("solo img out --ram=256 --budget=3", 1, 256, 3, ""),
-            ("solo img out --budget=262144 --ram=3", 1, 3, 262_144, ""),
-            ("solo img out --harts=32 --budget=8192", 32, 16, 8192, ""),
-            ("solo img out --budget=8456 --harts=31", 31, 16, 8456, ""),
-            ("solo img out --budget=0000000003", 1, 16, 3, ""),
-            ("solo img out --harts=02 --ram=0000000003", 2, 3, 8192, ""),
-            (
-                "solo img out --harts=4 --ram=2 --budget=8 --order=1",
-                4,
-                2,
-                8,
-                "1",
-            ),
-            (
-                "solo img out --order=v --budget=5 --ram=1 --harts=2",
-                2,
-                1,
-                5,
-                "v",
-            ),
-            (
-                "solo img out --ram=7 --order=01 --harts=3 --budget=9",
-                3,
-                7,
-                9,
-                "01",
-            ),
-        ] {
-            let words = words_of(rt.alloc(), line)?;
-            match read_words(&words) {
-                Some(command) => {
-                    assert_eq!(rt; command.image, "img", "image of {line}");
-                    assert_eq!(rt; command.trace, "out", "trace of {line}");
-                    assert_eq!(rt; command.harts, harts, "harts of {line}");
-                    assert_eq!(rt; command.ram / 1_048_576, ram, "ram of {line}");
-                    assert_eq!(rt; command.budget, budget, "budget of {line}");
-                    assert!(rt; command.order == order.as_bytes(), "order of {line}");
-                }
-                None => assert!(rt; false, "no reading of {line}"),
-            }
-        }
-        Ok(())
-    }
-
-    #[test]
-    fn refuses_other_words(rt: HostRuntime) -> Result<(), AllocError> {
-        let none: [String; 0] = [];
-        assert!(rt; read_words(&none).is_none());
-        for line in [
-            "",
-            "solo",
-            "run img out",
-            "Solo img out",
-            "solo img",
-            "solo img out more",
-            "solo  out",
-            "solo img ",
-            "solo -img out",
-            "solo img -",
-            "solo --ram=1 --budget=1 img out",
-            "solo img --ram=1 out",
-            "solo img out --harts=1 more",
-            "solo img out --ram=1 ",
-            "solo img out --input=1",
-            "solo img out --RAM=1",
-            "solo img out -ram=1",
-            "solo img out --ram",
-            "solo img out --ram 1",
-            "solo img out --ram 1 --budget=1",
-            "solo img out --order 0",
-            "solo img out --harts=1 --harts=1",
-            "solo img out --ram=1 --ram=1",
-            "solo img out --ram=1 --budget=1 --ram=2",
-            "solo img out --budget=1 --ram=1 --budget=1",
-            "solo img out --order=0 --order=0",
-            "solo img out --harts=0",
-            "solo img out --harts=33",
-            "solo img out --ram=0",
-            "solo img out --ram=257",
-            "solo img out --budget=0",
-            "solo img out --budget=262145",
-            "solo img out --harts=32 --budget=8193",
-            "solo img out --budget=131073 --harts=2",
-            "solo img out --harts=00000000001",
-            "solo img out --ram=00000000001",
-            "solo img out --budget=00000000001",
-            "solo img out --harts=",
-            "solo img out --ram=",
-            "solo img out --budget=",
-            "solo img out --order=",
-            "solo img out --harts=a",
-            "solo img out --ram=1k",
-            "solo img out --ram=+1",
-            "solo img out --budget=-1",
-            "solo img out --order=w",
-            "solo img out --order=A",
-            "solo img out --order=0,1",
-        ] {
-            let words = words_of(rt.alloc(), line)?;
-            assert!(rt; read_words(&words).is_none(), "a reading of {line}");
-        }
-        Ok(())
-    }
-
-    // `solo img out` with an order of so many characters.
-    fn words_with_order(alloc: Global, characters: u32) -> Result<Vec<String>, AllocError> {
-        let mut words = words_of(alloc, "solo img out")?;
-        let mut order = String::from_str(alloc, "--order=")?;
-        for _ in 0..characters {
-            order.push('v')?;
-        }
-        words.push(order)?;
-        Ok(words)
-    }
-
-    #[test]
-    fn limits_the_order(rt: HostRuntime) -> Result<(), AllocError> {
-        let words = words_with_order(rt.alloc(), 65_536)?;
-        match read_words(&words) {
-            Some(command) => assert_eq!(rt; command.order.len(), 65_536),
-            None => assert!(rt; false, "no reading"),
-        }
-        let more = words_with_order(rt.alloc(), 65_537)?;
-        assert!(rt; read_words(&more).is_none());
-        Ok(())
-    }
-
-    #[test]
-    fn names_the_harts(rt: HostRuntime) {
-        for (character, hart) in [
-            (b'0', 0),
-            (b'9', 9),
-            (b'a', 10),
-            (b'v', 31),
-            (b'w', 32),
-            (b'A', 32),
-            (b':', 32),
-            (b'`', 32),
-            (b'/', 32),
-            (0, 32),
-            (255, 32),
-        ] {
-            assert_eq!(rt; hart_named(character), hart, "{character}");
-        }
-    }
-}
+mod tests;

@@ -1,8 +1,7 @@
 use super::*;
 use flex_base::{
-    Access, AmoOp, Class, EndPart, Engine, Event, HartId, Line, Reply, Settings, Stop, What,
+    Access, AmoOp, Class, EndPart, Engine, Event, HartId, Line, Mode, Reply, Settings, Stop, What,
 };
-use hart_story::Hart;
 use std::alloc::{AllocError, Global};
 use std::process::Abort;
 
@@ -152,52 +151,29 @@ fn assert_line(rt: &impl Abort, line: &Line, text: &str) {
     assert!(rt; line.bytes() == text.as_bytes(), "not {text}");
 }
 
+#[rattlefmt::skip]
 #[test]
 fn writes_the_lines_around_the_events(rt: HostRuntime) {
     let mut line = Line::new();
-    let settings = Settings {
-        harts: 32,
-        ram: 256 << 20,
-        budget: 1 << 32,
-    };
+    let settings = Settings { harts: 32, ram: 256 << 20, budget: 1 << 32 };
     header_line(&settings, &mut line);
     assert_line(&rt, &line, "trace 1 harts 32 ram 256 budget 4294967296\n");
-    for (stop, text) in [
-        (Stop::Budget, "stop budget\n"),
-        (Stop::Idle, "stop idle\n"),
-        (Stop::Off(0), "stop off 0\n"),
-        (Stop::Off(65_535), "stop off 65535\n"),
+    let hart = HartId(12);
+    let digest = *b"\xba\x78\x16\xbf\x8f\x01\xcf\xea\x41\x41\x40\xde\x5d\xae\x22\x23\xb0\x03\x61\xa3\x96\x17\x7a\x9c\xb4\x10\xff\x61\xf2\x00\x15\xad";
+    for (tail, text) in [
+        (TailLine::Stop(Stop::Budget), "stop budget\n"),
+        (TailLine::Stop(Stop::Idle), "stop idle\n"),
+        (TailLine::Stop(Stop::Off(0)), "stop off 0\n"),
+        (TailLine::Stop(Stop::Off(65_535)), "stop off 65535\n"),
+        (TailLine::Hart { hart, ends: 3, mode: Mode::M, pc: 0x8000_0004 }, "hart 12 ends 3 mode m pc 0000000080000004\n"),
+        (TailLine::Hart { hart, ends: 0, mode: Mode::S, pc: 0 }, "hart 12 ends 0 mode s pc 0000000000000000\n"),
+        (TailLine::Hart { hart, ends: 0, mode: Mode::U, pc: 0 }, "hart 12 ends 0 mode u pc 0000000000000000\n"),
+        (TailLine::Reg { hart, number: 31, value: 0xfed }, "hart 12 x31 0000000000000fed\n"),
+        (TailLine::Csr { hart, number: 0x300, value: 0xa_0000_0000 }, "hart 12 csr 300 0000000a00000000\n"),
+        (TailLine::Ram(digest), "ram ba7816bf8f01cfea414140de5dae2223b00361a396177a9cb410ff61f20015ad\n"),
+        (TailLine::Done, "done\n"),
     ] {
-        stop_line(stop, &mut line);
-        assert_line(&rt, &line, text);
-    }
-    digest_line(b"abc", &mut line);
-    assert_line(
-        &rt,
-        &line,
-        "ram ba7816bf8f01cfea414140de5dae2223b00361a396177a9cb410ff61f20015ad\n",
-    );
-}
-
-#[test]
-fn writes_the_lines_of_a_hart(rt: HostRuntime) {
-    let mut line = Line::new();
-    let mut hart = Hart::start(HartId(0), 0x8000_0004);
-    hart.regs.ends = 3;
-    hart.regs.x[31] = 0xfed;
-    hart_line(HartId(12), &hart, &mut line);
-    assert_line(&rt, &line, "hart 12 ends 3 mode m pc 0000000080000004\n");
-    register_line(HartId(12), &hart, 31, &mut line);
-    assert_line(&rt, &line, "hart 12 x31 0000000000000fed\n");
-    register_line(HartId(12), &hart, 30, &mut line);
-    assert_line(&rt, &line, "");
-    for (number, text) in [
-        (0x300, "hart 12 csr 300 0000000a00000000\n"),
-        (0x304, ""),
-        (0xb00, "hart 12 csr b00 0000000000000003\n"),
-        (0xb02, "hart 12 csr b02 0000000000000003\n"),
-    ] {
-        csr_line(HartId(12), &hart, number, &mut line);
+        tail_line(&tail, &mut line);
         assert_line(&rt, &line, text);
     }
 }

@@ -1,5 +1,7 @@
 use super::*;
-use flex_base::{Engine, MemoryOuter, What};
+use crate::text::Tail;
+use flex_base::{Engine, HartId, MemoryOuter, Stop, What};
+use hart_story::Hart;
 use std::alloc::{AllocError, Global};
 use std::test::Fail;
 
@@ -26,23 +28,32 @@ fn write_small(alloc: Global, failing: &[u64]) -> Result<(MemoryOuter, bool), Al
     let mut first = Hart::start(HartId(0), 0x8000_0004);
     first.regs.ends = 3;
     first.regs.x[5] = 7;
-    let trace = Trace {
-        settings: Settings {
-            harts: 2,
-            ram: 1 << 20,
-            budget: 3,
-        },
-        events: &[Event {
-            number: 0,
-            hart: HartId(1),
-            engine: Engine::Pipe,
-            what: What::Handover(Engine::Kernel),
-        }],
-        stop: Stop::Off(7),
-        harts: &[first, Hart::start(HartId(1), 0x8000_0000)],
-        ram: b"abc",
+    let mut tail = Tail::new(alloc)?;
+    tail.fill(
+        Some(Stop::Off(7)),
+        &[first, Hart::start(HartId(1), 0x8000_0000)],
+        b"abc",
+    );
+    let settings = Settings {
+        harts: 2,
+        ram: 1 << 20,
+        budget: 3,
     };
-    let done = write_trace(&mut outer, "out", &mut pieces, &trace).is_ok();
+    let events = [Event {
+        number: 0,
+        hart: HartId(1),
+        engine: Engine::Pipe,
+        what: What::Handover(Engine::Kernel),
+    }];
+    let done = write_trace(
+        &mut outer,
+        "out",
+        &mut pieces,
+        &settings,
+        &events,
+        tail.lines(),
+    )
+    .is_ok();
     Ok((outer, done))
 }
 

@@ -1,39 +1,66 @@
--- The answer is that of the run, where the file can be taken.
-use Rattle.std.proofs.Common.{◌≡◌, ℕ, ◌≤◌, false, if◌then◌else◌, nat_lt, List, map, length, ap, sym, subst, ◌∙◌, arith}
-use Rattle.std.specs.Prelude.{None}
-use Rattle.std.proofs.lemmas.Bool.Decides.{nat_tests}
-use Rattle.flex_base.specs.Unsplit.{begin}
-use Rattle.flex_top.specs.Answer.{is_elf, setup_of, answer_of_setup, answer_of_file, IsAnswer}
-use Rattle.flex_top.specs.Words.{hart_of}
-use Rattle.flex_top.specs.declared.status.Status.{Status}
-use Rattle.flex_top.specs.declared.status.Status.TheVariants as status
-use Rattle.flex_top.specs.declared.status.ImageFault.TheVariants as image
-use Rattle.flex_top.proofs.Rounds.{budget_is}
+-- The answer and what is left are those of the image's run.
+use Rattle.std.proofs.Common.{◌≡◌, ℕ, List, None, Some, map, ap, sym, subst, ◌∙◌, arith}
+use Rattle.flex_base.specs.Unsplit.{begin, reach}
+use Rattle.flex_base.specs.Rounds.{names_played}
+use Rattle.flex_base.specs.Built.{first_unbuilt}
+use Rattle.flex_base.specs.declared.settings.Settings.{Settings}
+use Rattle.flex_top.specs.Answer.{loaded, setup_of}
+use Rattle.flex_top.specs.Play.{IsReached}
+use Rattle.flex_top.specs.Words.{hart_of, reading_of_command}
+use Rattle.flex_top.proofs.Doing.{answer_is, leaves_all, leaves_part}
 use Rattle.flex_top.proofs.solo.solo.Goals as goal
 
-pub run-requires-clause-few : goal.run-requires-clause-few
-run-requires-clause-few g c =
-    let setup = setup_of c.args.file.items c.args.command.now.harts c.args.command.now.ram c.args.command.now.budget in
-    omega (arith, budget_is setup (begin setup) c.in-Ok.prepared.player c.in-Ok.ensures, c.requires.budget)
-
-not_longer : (n ram : ℕ) → n ≤ ram → nat_lt ram n ≡ false
-not_longer n ram fits = grind (arith, nat_tests)
-
-taken : (file : List ℕ) (harts ram budget : ℕ) (order : List ℕ) → is_elf file ≡ false → nat_lt ram (length file) ≡ false
-    → answer_of_file file harts ram budget order ≡ answer_of_setup (setup_of file harts ram budget) order
-taken file harts ram budget order raw fits =
-    let run = answer_of_setup (setup_of file harts ram budget) order in
-    let refused = status.ImageRefused (image.SegmentOutsideRam 0) in
-    ap (λ b. if b then status.Unbuilt None else (if nat_lt ram (length file) then refused else run)) raw
-    ∙ ap (λ b. if b then refused else run) fits
-
-pub returns-in-Ok-clause-answer : goal.returns-in-Ok-clause-answer
-returns-in-Ok-clause-answer g c =
-    let file = c.args.file.items in
+pub returns-in-Err-Unbuilt-clause-answer : goal.returns-in-Err-Unbuilt-clause-answer
+returns-in-Err-Unbuilt-clause-answer g c =
     let command = c.args.command.now in
-    let order = map hart_of command.order.now in
-    let setup = setup_of file command.harts command.ram command.budget in
-    let raw : is_elf file ≡ false = ap is_elf (sym c.deref.ensures.value) ∙ sym c.is_elf.ensures ∙ c.if-is_elf.false in
-    let fits : nat_lt command.ram (length file) ≡ false = not_longer (length file) command.ram (omega (arith, c.if-len-command.false, c.len.ensures)) in
-    let Is : Status → Type 0 = λ expected. IsAnswer expected c.run.result in
-    subst Is (sym (taken file command.harts command.ram command.budget order raw fits)) (c.run.ensures.answer setup c.in-Ok.ensures)
+    let setup = setup_of c.in-Ok.image command.settings in
+    let order_is : c.deref.result.now ≡ map hart_of command.order.now = c.deref.ensures.value ∙ c.in-Ok-prepare.ensures.order in
+    let Stuck : List ℕ → Type 0 = λ ns. first_unbuilt setup (begin setup) (names_played setup ns) ≡ Some c.in-Err-Unbuilt.pc in
+    let comes = rw c.in-Err-Unbuilt.field-0-is at c.in-Err-Unbuilt.ensures in
+    sym (answer_is c.in-Ok.image (loaded c.args.file.items command.settings.ram) command.settings (map hart_of command.order.now) (Some c.in-Err-Unbuilt.pc) c.in-Ok.ensures.image
+    (subst Stuck order_is (comes setup c.in-Ok-prepare.ensures.at)))
+
+pub fill_tail-requires : goal.fill_tail-requires
+fill_tail-requires g c =
+    let setup = setup_of c.in-Ok.image c.args.command.now.settings in
+    (setup, _, (c.in-Ok-play.ensures setup c.in-Ok-prepare.ensures.at).at)
+
+pub returns-in-Ok-write_trace-clause-answer : goal.returns-in-Ok-write_trace-clause-answer
+returns-in-Ok-write_trace-clause-answer g c =
+    let command = c.args.command.now in
+    let setup = setup_of c.in-Ok.image command.settings in
+    let order_is : c.deref.result.now ≡ map hart_of command.order.now = c.deref.ensures.value ∙ c.in-Ok-prepare.ensures.order in
+    let Built : List ℕ → Type 0 = λ ns. first_unbuilt setup (begin setup) (names_played setup ns) ≡ None in
+    sym (answer_is c.in-Ok.image (loaded c.args.file.items command.settings.ram) command.settings (map hart_of command.order.now) None c.in-Ok.ensures.image
+    (subst Built order_is (c.in-Ok-play.ensures setup c.in-Ok-prepare.ensures.at).built))
+
+pub returns-in-Ok-write_trace-clause-ended : goal.returns-in-Ok-write_trace-clause-ended
+returns-in-Ok-write_trace-clause-ended g c = λ at.
+    let command = c.args.command.now in
+    let setup = setup_of c.in-Ok.image command.settings in
+    let order_is : c.deref.result.now ≡ map hart_of command.order.now = c.deref.ensures.value ∙ c.in-Ok-prepare.ensures.order in
+    let Done : List ℕ → Type 0 = λ ns. IsReached setup (names_played setup ns) c.play.new.self in
+    let done = subst Done order_is (c.in-Ok-play.ensures setup c.in-Ok-prepare.ensures.at) in
+    leaves_all (reading_of_command command) c.in-Ok.image (loaded c.args.file.items command.settings.ram) (g.O.Outer.outside c.args.outer.now) (g.O.Outer.outside c.write_trace.new.outer) c.play.new.self
+    c.deref-2.result.now c.lines.result.now c.in-Ok.ensures.image done c.deref-2.ensures.value (c.lines.ensures ∙ c.fill_tail.ensures setup (reach setup (names_played setup (map hart_of command.order.now))) done.at)
+    c.in-Ok-write_trace.ensures.ok c.in-Ok-write_trace.ensures.frame.said
+
+pub returns-clause-answer : goal.returns-clause-answer
+returns-clause-answer g c =
+    let command = c.args.command.now in
+    let setup = setup_of c.in-Ok.image command.settings in
+    let order_is : c.deref.result.now ≡ map hart_of command.order.now = c.deref.ensures.value ∙ c.in-Ok-prepare.ensures.order in
+    let Built : List ℕ → Type 0 = λ ns. first_unbuilt setup (begin setup) (names_played setup ns) ≡ None in
+    answer_is c.in-Ok.image (loaded c.args.file.items command.settings.ram) command.settings (map hart_of command.order.now) None c.in-Ok.ensures.image
+    (subst Built order_is (c.in-Ok-play.ensures setup c.in-Ok-prepare.ensures.at).built)
+
+pub returns-clause-cut : goal.returns-clause-cut
+returns-clause-cut g c = λ at.
+    let command = c.args.command.now in
+    let setup = setup_of c.in-Ok.image command.settings in
+    let order_is : c.deref.result.now ≡ map hart_of command.order.now = c.deref.ensures.value ∙ c.in-Ok-prepare.ensures.order in
+    let Done : List ℕ → Type 0 = λ ns. IsReached setup (names_played setup ns) c.play.new.self in
+    let done = subst Done order_is (c.in-Ok-play.ensures setup c.in-Ok-prepare.ensures.at) in
+    leaves_part (reading_of_command command) c.in-Ok.image (loaded c.args.file.items command.settings.ram) (g.O.Outer.outside c.args.outer.now) (g.O.Outer.outside c.write_trace.new.outer) c.play.new.self
+    c.deref-2.result.now c.lines.result.now c.in-Ok.ensures.image done c.deref-2.ensures.value (c.lines.ensures ∙ c.fill_tail.ensures setup (reach setup (names_played setup (map hart_of command.order.now))) done.at)
+    c.in-Err-write_trace.ensures.err c.in-Err-write_trace.ensures.frame.said

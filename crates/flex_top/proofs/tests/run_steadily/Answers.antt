@@ -3,4 +3,4 @@ use Rattle.std.proofs.Common.{refl, arith}
 use Rattle.flex_top.proofs.tests.run_steadily.Goals as goal
 
 pub returns : goal.returns
-returns c = λ r file reads holds expects. c.flex_top.ensures.complete r file reads holds expects (refl, omega arith) (refl, omega arith)
+returns c = λ r reads expects. (c.flex_top.ensures.does r reads).completes expects (refl, omega arith) (refl, omega arith)

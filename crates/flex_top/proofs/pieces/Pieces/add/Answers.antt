@@ -14,6 +14,6 @@ returns-clause-ok g c =
     let left : c.extend_from_slice-3.new.self.items ≡ drop (65536 - c.len-left.result) c.args.bytes.now = grind (arith, common_steps) in
     record {
       added = c.deref.result.now;
-      grows = grows_appended _ _ _ _ c.in-Ok.ensures.ok;
+      grows = grows_appended (g.O.Outer.outside c.args.outer.now) (g.O.Outer.outside c.add.new.self) c.args.name.now c.deref.result.now c.in-Ok.ensures.ok;
       whole = rw left (filled c.args.self.now c.args.bytes.now _ _ full);
     }

@@ -1,22 +1,19 @@
 -- The turn goes on where the step left it.
-use Rattle.std.proofs.Common.{ℕ, Option, subst, arith}
-use Rattle.flex_base.specs.Setup.{Setup}
-use Rattle.flex_base.specs.Unsplit.{Machine}
-use Rattle.flex_top.specs.Play.{IsAt, AfterStep, AfterTurn, IsNearer}
+use Rattle.std.proofs.Common.{subst, arith}
+use Rattle.std.proofs.lemmas.Result.{err_from_is_err_and}
+use Rattle.flex_top.specs.Play.{AfterStep, IsStuck, IsNearer}
 use Rattle.flex_top.specs.declared.player.Step.{Step}
-use Rattle.flex_top.proofs.Rounds.{IfOk-map, turned_on, turned_once, turned_over, turned_stuck}
+use Rattle.flex_top.proofs.Rounds.{stuck_from, turned_on, turned_once, turned_over, turned_stuck}
 use Rattle.flex_top.proofs.player.Player.+turn.Goals as goal
 
+pub returns-in_err-step : goal.returns-in_err-step
+returns-in_err-step t c = λ setup u at. stuck_from c.from_residual.result _ _ _ _ (err_from_is_err_and c.from_residual.result c.from_residual.ensures.1) (λ pc (stuck : IsStuck setup u c.args.h pc). turned_stuck setup u c.args.h pc stuck) (c.in_err-step.ensures.after setup u at)
+
 pub returns-in-Accessed : goal.returns-in-Accessed
-returns-in-Accessed t c =
-    let h = c.args.h in
-    let Was : Option ℕ → Type 0 = λ pc. (setup : Setup) (u : Machine) → IsAt setup u c.step.new.self → AfterTurn setup u h pc c.turn.new.self in
-    let Is : Option ℕ → Type 0 = λ pc. (setup : Setup) (u : Machine) → IsAt setup u c.args.self.now → AfterTurn setup u h pc c.turn.new.self in
-    IfOk-map c.turn.result Was Is (λ pc after setup u at.
-    let Stepped : Step → Type 0 = λ s. AfterStep setup u h s c.step.new.self in
+returns-in-Accessed t c = λ setup u at.
+    let Stepped : Step → Type 0 = λ s. AfterStep setup u c.args.h s c.step.new.self in
     let on = subst Stepped c.in-Accessed.is (c.in_ok-step.ensures.after setup u at) in
-    turned_on setup u h pc c.step.new.self c.turn.new.self on (after setup _ on.stepped.at))
-    c.turn.ensures
+    turned_on setup u c.args.h c.step.new.self c.turn.result c.turn.new.self on (c.turn.ensures setup _ on.stepped.at)
 
 pub returns-in-Ended : goal.returns-in-Ended
 returns-in-Ended t c = λ setup u at.
@@ -27,11 +24,6 @@ pub returns-in-Over : goal.returns-in-Over
 returns-in-Over t c = λ setup u at.
     let Stepped : Step → Type 0 = λ s. AfterStep setup u c.args.h s c.step.new.self in
     turned_over setup u c.args.h c.step.new.self (subst Stepped c.in-Over.is (c.in_ok-step.ensures.after setup u at))
-
-pub returns-in-Unbuilt : goal.returns-in-Unbuilt
-returns-in-Unbuilt t c = λ setup u at.
-    let Stepped : Step → Type 0 = λ s. AfterStep setup u c.args.h s c.step.new.self in
-    turned_stuck setup u c.args.h c.in-Unbuilt.pc (subst Stepped c.in-Unbuilt.is (c.in_ok-step.ensures.after setup u at))
 
 pub turn-requires : goal.turn-requires
 turn-requires t c =

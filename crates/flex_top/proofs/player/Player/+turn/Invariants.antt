@@ -1,5 +1,5 @@
 -- Each access brings the end of the instruction nearer.
-use Rattle.hart_story.specs.Progressing.{left}
+use Rattle.hart_story.specs.Progress.{left}
 use Rattle.flex_top.specs.Play.{progress_at}
 use Rattle.flex_top.proofs.player.Player.+turn.Given as goal
 

@@ -1,0 +1,70 @@
+-- What a command does: its answer, and what it leaves outside.
+use Rattle.std.specs.Prelude.{◌≡◌, ◌≢◌, ℕ, ◌-◌, ◌^◌, ◌<◌, ◌⊎◌, List, Option, None, Some, IfSome, IsSomeAnd}
+use Rattle.flex_base.specs.Files.{Counts, Said, SaidPart}
+use Rattle.flex_base.specs.Outside.{Outside, Writes, Says}
+use Rattle.flex_top.specs.Words.{Reading}
+use Rattle.flex_top.specs.Answer.{Outcome, expected, outcome, image_limit}
+use Rattle.flex_top.specs.Written.{Becomes, BecomesPart}
+use Rattle.flex_top.specs.declared.status.Status.{Status}
+use Rattle.flex_top.specs.declared.status.Status.TheVariants as status
+use Rattle.flex_top.specs.declared.status.ImageFault.TheVariants as image
+
+-- the answer is the expected one, unless a fault of the outside or want of memory came before
+abbrev pub IsAnswer : Status → Status → Type 0
+IsAnswer expected status.ReadFault = Unit {0}
+IsAnswer expected status.OutOfMemory = Unit {0}
+IsAnswer expected status.WriteFault = expected ≡ status.Ended
+IsAnswer expected answer = answer ≡ expected
+
+-- where the image's file is missing, nothing comes before
+abbrev pub Answers : Option (List ℕ) → Status → Status → Type 0
+Answers None expected answer = answer ≡ expected
+Answers (Some file) expected answer = IsAnswer expected answer
+
+-- a count of faults that doesn't rise and is below its end
+abbrev pub IsCalm : ℕ → ℕ → Type 0
+IsCalm before now = (now ≡ before) × (now < 2 ^ 64 - 1)
+
+-- the trace was written, or memory ran out
+abbrev pub IsEnded : Status → Type 0
+IsEnded answer = (answer ≡ status.Ended) ⊎ (answer ≡ status.OutOfMemory)
+
+abbrev pub WritesAll : Outside → Outside → Option (List ℕ × List ℕ) → Type 0
+WritesAll old new None = new.written ≡ old.written
+WritesAll old new (Some file) = Writes old new file.0 (Becomes file.1)
+
+abbrev pub WritesPart : Outside → Outside → Option (List ℕ × List ℕ) → Type 0
+WritesPart old new None = new.written ≡ old.written
+WritesPart old new (Some file) = Writes old new file.0 (BecomesPart file.1)
+
+-- all of the outcome is left
+pub record Leaves (o : Outcome) (old new : Outside) : Type 0 where
+  pub said : Says old new (Said o.said)
+  pub file : WritesAll old new o.file
+
+-- the beginning of the outcome is left
+pub record LeavesPart (o : Outcome) (old new : Outside) : Type 0 where
+  pub said : Says old new (SaidPart o.said)
+  pub file : WritesPart old new o.file
+
+-- what `solo` does
+pub record Does (r : Reading) (old : Outside) (answer : Status) (new : Outside) : Type 0 where
+  -- by the files that can be taken, where they are told: the answer, and that it comes where the outside has no fault
+  pub answers : IfSome old.held (λ files. Answers (files r.image) (expected r files) answer)
+  pub completes : IsSomeAnd old.held (λ files. expected r files ≡ status.Ended) → IsCalm old.read_faults new.read_faults
+      → IsCalm old.write_faults new.write_faults → IsEnded answer
+  -- what is left once it has ended, and where a write failed
+  pub ended : answer ≡ status.Ended → IfSome old.held (λ files. Leaves (outcome r files) old new)
+  pub cut : answer ≡ status.WriteFault → IfSome old.held (λ files. LeavesPart (outcome r files) old new)
+  -- whatever is told: else nothing is written, never another file; nothing is said so far; files that can be taken stay
+  pub nothing : answer ≢ status.Ended → answer ≢ status.WriteFault → new.written ≡ old.written
+  pub others : Writes old new r.trace (λ was is. Unit {0})
+  pub said : new.said ≡ old.said
+  pub held : new.held ≡ old.held
+  -- a file that is too long is so
+  pub too_long : (n : ℕ) → answer ≡ status.ImageRefused (image.TooLong n) → image_limit < n
+
+-- each fault of the outside is answered exactly where its count rose
+pub record TellsFaults (old : Outside) (answer : Status) (new : Outside) : Type 0 where
+  pub read : Counts old.read_faults new.read_faults (answer ≡ status.ReadFault)
+  pub write : Counts old.write_faults new.write_faults (answer ≡ status.WriteFault)

@@ -1,0 +1,156 @@
+use super::*;
+use crate::tests::words_of;
+
+#[test]
+fn reads_the_words(rt: HostRuntime) -> Result<(), AllocError> {
+    for (line, harts, ram, budget, order) in [
+        ("solo img out", 1, 16, 8192, ""),
+        ("solo img out --harts=32", 32, 16, 8192, ""),
+        ("solo img out --ram=1", 1, 1, 8192, ""),
+        ("solo img out --budget=1", 1, 16, 1, ""),
+        ("solo img out --order=09av", 1, 16, 8192, "09av"),
+        ("solo img out --ram=256 --budget=3", 1, 256, 3, ""),
+        ("solo img out --budget=262144 --ram=3", 1, 3, 262_144, ""),
+        ("solo img out --harts=32 --budget=8192", 32, 16, 8192, ""),
+        ("solo img out --budget=8456 --harts=31", 31, 16, 8456, ""),
+        ("solo img out --budget=0000000003", 1, 16, 3, ""),
+        ("solo img out --harts=02 --ram=0000000003", 2, 3, 8192, ""),
+        (
+            "solo img out --harts=4 --ram=2 --budget=8 --order=1",
+            4,
+            2,
+            8,
+            "1",
+        ),
+        (
+            "solo img out --order=v --budget=5 --ram=1 --harts=2",
+            2,
+            1,
+            5,
+            "v",
+        ),
+        (
+            "solo img out --ram=7 --order=01 --harts=3 --budget=9",
+            3,
+            7,
+            9,
+            "01",
+        ),
+    ] {
+        let words = words_of(rt.alloc(), line)?;
+        match read_words(&words) {
+            Some(command) => {
+                assert_eq!(rt; command.image, "img", "image of {line}");
+                assert_eq!(rt; command.trace, "out", "trace of {line}");
+                assert_eq!(rt; command.settings.harts, harts, "harts of {line}");
+                assert_eq!(rt; command.settings.ram / 1_048_576, ram, "ram of {line}");
+                assert_eq!(rt; command.settings.budget, budget, "budget of {line}");
+                assert!(rt; command.order == order.as_bytes(), "order of {line}");
+            }
+            None => assert!(rt; false, "no reading of {line}"),
+        }
+    }
+    Ok(())
+}
+
+#[test]
+fn refuses_other_words(rt: HostRuntime) -> Result<(), AllocError> {
+    let none: [String; 0] = [];
+    assert!(rt; read_words(&none).is_none());
+    for line in [
+        "",
+        "solo",
+        "run img out",
+        "Solo img out",
+        "solo img",
+        "solo img out more",
+        "solo  out",
+        "solo img ",
+        "solo -img out",
+        "solo img -",
+        "solo --ram=1 --budget=1 img out",
+        "solo img --ram=1 out",
+        "solo img out --harts=1 more",
+        "solo img out --ram=1 ",
+        "solo img out --input=1",
+        "solo img out --RAM=1",
+        "solo img out -ram=1",
+        "solo img out --ram",
+        "solo img out --ram 1",
+        "solo img out --ram 1 --budget=1",
+        "solo img out --order 0",
+        "solo img out --harts=1 --harts=1",
+        "solo img out --ram=1 --ram=1",
+        "solo img out --ram=1 --budget=1 --ram=2",
+        "solo img out --budget=1 --ram=1 --budget=1",
+        "solo img out --order=0 --order=0",
+        "solo img out --harts=0",
+        "solo img out --harts=33",
+        "solo img out --ram=0",
+        "solo img out --ram=257",
+        "solo img out --budget=0",
+        "solo img out --budget=262145",
+        "solo img out --harts=32 --budget=8193",
+        "solo img out --budget=131073 --harts=2",
+        "solo img out --harts=00000000001",
+        "solo img out --ram=00000000001",
+        "solo img out --budget=00000000001",
+        "solo img out --harts=",
+        "solo img out --ram=",
+        "solo img out --budget=",
+        "solo img out --order=",
+        "solo img out --harts=a",
+        "solo img out --ram=1k",
+        "solo img out --ram=+1",
+        "solo img out --budget=-1",
+        "solo img out --order=w",
+        "solo img out --order=A",
+        "solo img out --order=0,1",
+    ] {
+        let words = words_of(rt.alloc(), line)?;
+        assert!(rt; read_words(&words).is_none(), "a reading of {line}");
+    }
+    Ok(())
+}
+
+// `solo img out` with an order of so many characters.
+fn words_with_order(alloc: Global, characters: u32) -> Result<Vec<String>, AllocError> {
+    let mut words = words_of(alloc, "solo img out")?;
+    let mut order = String::from_str(alloc, "--order=")?;
+    for _ in 0..characters {
+        order.push('v')?;
+    }
+    words.push(order)?;
+    Ok(words)
+}
+
+#[test]
+fn limits_the_order(rt: HostRuntime) -> Result<(), AllocError> {
+    let words = words_with_order(rt.alloc(), 65_536)?;
+    match read_words(&words) {
+        Some(command) => assert_eq!(rt; command.order.len(), 65_536),
+        None => assert!(rt; false, "no reading"),
+    }
+    let more = words_with_order(rt.alloc(), 65_537)?;
+    assert!(rt; read_words(&more).is_none());
+    Ok(())
+}
+
+#[test]
+fn names_the_harts(rt: HostRuntime) {
+    for (character, hart) in [
+        (b'0', 0),
+        (b'9', 9),
+        (b'a', 10),
+        (b'v', 31),
+        (b'w', 32),
+        (b'A', 32),
+        (b':', 32),
+        (b'`', 32),
+        (b'/', 32),
+        (0, 32),
+        (255, 32),
+    ] {
+        assert_eq!(rt; hart_named(character), hart, "{character}");
+    }
+}
