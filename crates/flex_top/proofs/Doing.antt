@@ -1,5 +1,5 @@
 -- What a command does, by what the outside gave and what came of the run.
-use Rattle.std.proofs.Common.{◌≡◌, ◌≢◌, ℕ, ◌<◌, ◌≤◌, true, false, if◌then◌else◌, nat_lt, List, [], ◌∷◌, ◌++◌, length, Option, None, Some, Result, Ok, Err, inl, inr, refl, ap, sym, subst, ◌∙◌, arith}
+use Rattle.std.proofs.Common.{◌≡◌, ◌≢◌, ℕ, ◌≤◌, false, if◌then◌else◌, nat_lt, List, [], ◌++◌, length, Option, None, Some, Result, Ok, Err, inl, inr, refl, ap, sym, subst, ◌∙◌, arith}
 use Rattle.std.specs.Prelude.{IfSome, IsSomeAnd}
 use Rattle.std.proofs.lemmas.Bool.Decides.{nat_tests}
 use Rattle.std.proofs.lemmas.List.{append-nil}
@@ -12,9 +12,8 @@ use Rattle.flex_base.specs.Built.{first_unbuilt}
 use Rattle.flex_base.specs.Journal.{console}
 use Rattle.flex_base.specs.declared.event.Event.{Event}
 use Rattle.flex_base.specs.declared.settings.Settings.{Settings}
-use Rattle.flex_base.specs.declared.outer.TakeFault.TheVariants as fault
 use Rattle.flex_top.specs.Words.{Reading}
-use Rattle.flex_top.specs.Answer.{Outcome, image_limit, loaded, taken, setup_of, journal_of, answer_of_run, answer_of, expected, outcome_of, outcome}
+use Rattle.flex_top.specs.Answer.{image_limit, loaded, taken, setup_of, journal_of, answer_of_run, answer_of, expected, outcome_of}
 use Rattle.flex_top.specs.Play.{IsReached}
 use Rattle.flex_top.specs.Trace.{tail_of, whole_text}
 use Rattle.flex_top.specs.Does.{IsAnswer, Answers, IsCalm, IsEnded, WritesAll, WritesPart, Leaves, LeavesPart, Does}
@@ -24,7 +23,6 @@ use Rattle.flex_top.specs.declared.text.tail_text.TailLine.{TailLine}
 use Rattle.flex_top.specs.declared.status.Status.{Status}
 use Rattle.flex_top.specs.declared.status.Status.TheVariants as status
 use Rattle.flex_top.specs.declared.status.ImageFault.TheVariants as image
-use Rattle.flex_top.proofs.Growth.{changes_weaker}
 use Rattle.flex_top.proofs.Writing.{trace_is, run_quiet}
 
 -- a call whose count stays has not failed
@@ -43,9 +41,6 @@ ended_by (status.Unbuilt pc) is unread unwritten = absurd cc
 
 within : (file : List ℕ) → length file ≤ image_limit → nat_lt image_limit (length file) ≡ false
 within file fits = grind (arith, nat_tests)
-
-longer : (file : List ℕ) → image_limit < length file → nat_lt image_limit (length file) ≡ true
-longer file long = grind (arith, nat_tests)
 
 -- a file within the limit is loaded
 taken_within : (file : List ℕ) (ram : ℕ) → length file ≤ image_limit → taken (Some file) ram ≡ loaded file ram
@@ -83,13 +78,6 @@ part_from : (old mid new : Outside) (file : Option (List ℕ × List ℕ)) → m
 part_from old mid new None same writes = writes ∙ same
 part_from old mid new (Some file) same writes = writes_from old.written mid.written new.written file.0 (BecomesPart file.1) same writes
 
-unchanged : (a b : Option Files) (name : List ℕ) → b ≡ a → ChangesFile a b name (λ was is. Unit {0})
-unchanged None b name same = same
-unchanged (Some a) None name same = absurd cc
-unchanged (Some a) (Some b) name same = (tt, λ other differs. let is : b ≡ a = cc in ap (λ (f : Files). f other) is)
-
--- The four ways.
-
 -- the image was taken, and `solo` did the rest
 pub does_solo : (r : Reading) (old mid new : Outside) (file : List ℕ) (answer : Status) (Fails : Type 0) → Taken old.held r.image image_limit (Ok file) → length file ≤ image_limit → OnlyReads old mid Fails
     → IsAnswer (answer_of (loaded file r.settings.ram) r.settings r.order) answer
@@ -103,7 +91,7 @@ does_solo r old mid new file answer Fails took fits took_only is ended cut nothi
       let Is : Status → Type 0 = λ e. IsAnswer e answer in
       let Quiet : ℕ → Type 0 = λ n. IsCalm n new.write_faults in
       ended_by answer (subst Is (expected_of old.held r file took fits ends) is) unread
-          (calm_unfailed mid.write_faults new.write_faults (answer ≡ status.WriteFault) writes.cause (subst Quiet (sym took_only.write_faults) quiet));
+      (calm_unfailed mid.write_faults new.write_faults (answer ≡ status.WriteFault) writes.cause (subst Quiet (sym took_only.write_faults) quiet));
   ended = λ at.
       let left = ended at in
       told_by old.held r.image file r.settings.ram (λ o l. Leaves (outcome_of l r) old new) took fits (record {
@@ -122,70 +110,6 @@ does_solo r old mid new file answer Fails took fits took_only is ended cut nothi
   held = writes.held ∙ took_only.held;
   too_long = λ n is_long. absurd (short n is_long);
 }
-
--- no image was taken
-does_nothing : (r : Reading) (old new : Outside) (answer : Status) (Fails : Type 0) → OnlyReads old new Fails → answer ≢ status.Ended → answer ≢ status.WriteFault
-    → IfSome old.held (λ files. Answers (files r.image) (expected r files) answer)
-    → (IsSomeAnd old.held (λ files. expected r files ≡ status.Ended) → IsCalm old.read_faults new.read_faults → IsEnded answer)
-    → ((n : ℕ) → answer ≡ status.ImageRefused (image.TooLong n) → image_limit < n) → Does r old answer new
-does_nothing r old new answer Fails reads unended unfailed answers completes too_long = record {
-  answers = answers;
-  completes = λ ends calm quiet. completes ends calm;
-  ended = λ at. absurd (unended at);
-  cut = λ at. absurd (unfailed at);
-  nothing = λ x y. reads.written;
-  others = unchanged old.written new.written r.trace reads.written;
-  said = reads.said;
-  held = reads.held;
-  too_long = too_long;
-}
-
-read_answers : (o : Option (List ℕ)) (r : Reading) → Answers o (answer_of (taken o r.settings.ram) r.settings r.order) status.ReadFault
-read_answers None r = refl
-read_answers (Some file) r = tt
-
-if_some : (held : Option Files) (P : Files → Type 0) → ((files : Files) → P files) → IfSome held P
-if_some None P all = tt
-if_some (Some files) P all = all files
-
-pub does_fail : (r : Reading) (old new : Outside) (Fails : Type 0) → OnlyReads old new Fails → Fails → Does r old status.ReadFault new
-does_fail r old new Fails reads fails = does_nothing r old new status.ReadFault Fails reads (λ e. cc) (λ e. cc)
-    (if_some old.held (λ files. Answers (files r.image) (expected r files) status.ReadFault) (λ files. read_answers (files r.image) r))
-    (λ ends calm. absurd (calm_unfailed old.read_faults new.read_faults Fails reads.cause calm fails))
-    (λ n e. absurd cc)
-
-memory_answers : (held : Option Files) (r : Reading) → Taken held r.image image_limit (Err fault.OutOfMemory) → IfSome held (λ files. Answers (files r.image) (expected r files) status.OutOfMemory)
-memory_answers None r took = tt
-memory_answers (Some files) r took =
-    let At : Option (List ℕ) → Type 0 = λ o. Answers o (expected r files) status.OutOfMemory in
-    subst At (sym took.1) tt
-
-pub does_fill : (r : Reading) (old new : Outside) (Fails : Type 0) → OnlyReads old new Fails → Taken old.held r.image image_limit (Err fault.OutOfMemory) → Does r old status.OutOfMemory new
-does_fill r old new Fails reads took = does_nothing r old new status.OutOfMemory Fails reads (λ e. cc) (λ e. cc) (memory_answers old.held r took) (λ ends calm. inr refl) (λ n e. absurd cc)
-
--- a file that is too long is answered by its length
-long_is : (files : Files) (r : Reading) (n : ℕ) → Taken (Some files) r.image image_limit (Err (fault.TooLong n)) → expected r files ≡ status.ImageRefused (image.TooLong n)
-long_is files r n took =
-    let bytes = took.0 in
-    let long : nat_lt image_limit (length bytes) ≡ true = longer bytes (omega (arith, took.2, took.3)) in
-    ap (λ (o : Option (List ℕ)). answer_of (taken o r.settings.ram) r.settings r.order) took.1
-    ∙ ap (λ b. answer_of (if b then Err (status.ImageRefused (image.TooLong (length bytes))) else loaded bytes r.settings.ram) r.settings r.order) long
-    ∙ ap (λ m. status.ImageRefused (image.TooLong m)) (sym took.2)
-
-long_answers : (held : Option Files) (r : Reading) (n : ℕ) → Taken held r.image image_limit (Err (fault.TooLong n)) → IfSome held (λ files. Answers (files r.image) (expected r files) (status.ImageRefused (image.TooLong n)))
-long_answers None r n took = tt
-long_answers (Some files) r n took =
-    let At : Option (List ℕ) → Type 0 = λ o. Answers o (expected r files) (status.ImageRefused (image.TooLong n)) in
-    subst At (sym took.1) (sym (long_is files r n took))
-
-long_ends : (held : Option Files) (r : Reading) (n : ℕ) → Taken held r.image image_limit (Err (fault.TooLong n)) → IsSomeAnd held (λ files. expected r files ≡ status.Ended) → ⊥
-long_ends None r n took ends = ends
-long_ends (Some files) r n took ends = let other : status.ImageRefused (image.TooLong n) ≡ status.Ended = sym (long_is files r n took) ∙ ends in cc
-
-pub does_refuse : (r : Reading) (old new : Outside) (n : ℕ) (Fails : Type 0) → OnlyReads old new Fails → Taken old.held r.image image_limit (Err (fault.TooLong n)) → image_limit < n → Does r old (status.ImageRefused (image.TooLong n)) new
-does_refuse r old new n Fails reads took long = does_nothing r old new (status.ImageRefused (image.TooLong n)) Fails reads (λ e. cc) (λ e. cc) (long_answers old.held r n took)
-    (λ ends calm. absurd (long_ends old.held r n took ends))
-    (λ m e. let same : n ≡ m = cc in omega (arith, same, long))
 
 -- What `solo` leaves.
 
@@ -231,10 +155,3 @@ leaves_part r image l old new player events tail is done same_events same_tail w
 pub answer_is : (image : Loaded) (l : Result Loaded Status) (settings : Settings) (order : List ℕ) (stuck : Option ℕ) → l ≡ Ok image
     → first_unbuilt (setup_of image settings) (begin (setup_of image settings)) (names_played (setup_of image settings) order) ≡ stuck → answer_of l settings order ≡ answer_of_run stuck
 answer_is image l settings order stuck is comes = ap (λ (x : Result Loaded Status). answer_of x settings order) is ∙ ap answer_of_run comes
-
--- no other file changes where the named one does
-pub others_stay : (old new : Outside) (name : List ℕ) (Change : Option (List ℕ) → Option (List ℕ) → Type 0) → Writes old new name Change → Writes old new name (λ was is. Unit {0})
-others_stay old new name Change writes = changes_weaker old.written new.written name Change (λ was is. Unit {0}) (λ was is change. tt) writes
-
-pub all_stay : (a : Outside) (name : List ℕ) → Writes a a name (λ was is. Unit {0})
-all_stay a name = unchanged a.written a.written name refl

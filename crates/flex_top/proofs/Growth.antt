@@ -1,7 +1,7 @@
 -- How a file grows, piece by piece.
-use Rattle.std.proofs.Common.{◌≡◌, ℕ, ◌+◌, ◌<◌, ◌≤◌, get_or, Result, Ok, Err, OnErr, List, [], ◌∷◌, ◌++◌, take, drop, length, Option, None, Some, unwrap_or, inl, inr, refl, subst, sym, ap, ◌∙◌, append_assoc}
+use Rattle.std.proofs.Common.{◌≡◌, ℕ, ◌+◌, ◌<◌, get_or, Result, Ok, Err, OnErr, List, [], ◌∷◌, ◌++◌, take, drop, length, Option, None, Some, unwrap_or, inl, inr, refl, subst, sym, ap, ◌∙◌, append_assoc}
 use Rattle.std.proofs.Math.Seq.{take-append_seam}
-use Rattle.std.proofs.lemmas.List.{append-nil, take-append-drop, take_all, take_more}
+use Rattle.std.proofs.lemmas.List.{append-nil, take-append-drop, take_more}
 use Rattle.std.specs.List.{flat_map}
 use Rattle.std.proofs.lemmas.Grind.{flat_map-append}
 use Rattle.flex_base.specs.Files.{Files, ChangesFile, Appended, AppendedPart, Started, StartedPart}
@@ -43,7 +43,7 @@ changes_on (Some a) None c name P Q R on p q = absurd p
 changes_on (Some a) (Some b) None name P Q R on p q = absurd q
 changes_on (Some a) (Some b) (Some c) name P Q R on p q = (on (a name) (b name) (c name) p.0 q.0, λ other differs. q.1 other differs ∙ p.1 other differs)
 
-pub changes_weaker : (a b : Option Files) (name : List ℕ) (P Q : Option (List ℕ) → Option (List ℕ) → Type 0) → ((old new : Option (List ℕ)) → P old new → Q old new) → ChangesFile a b name P → ChangesFile a b name Q
+changes_weaker : (a b : Option Files) (name : List ℕ) (P Q : Option (List ℕ) → Option (List ℕ) → Type 0) → ((old new : Option (List ℕ)) → P old new → Q old new) → ChangesFile a b name P → ChangesFile a b name Q
 changes_weaker None b name P Q weaker p = p
 changes_weaker (Some a) None name P Q weaker p = p
 changes_weaker (Some a) (Some b) name P Q weaker p = (weaker (a name) (b name) p.0, p.1)

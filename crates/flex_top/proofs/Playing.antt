@@ -146,8 +146,8 @@ each_by setup u v player next h half at halves spent harts fars here k other bel
   | inr apart ↦
       let was = at.each k other below in
       hart_is setup v k (instruction_at u k) (get_or player.harts.items k other) (get_or next.harts.items k other) (progress_at player k) (progress_at next k)
-          (ap (λ (xs : List Instruction). get_or xs k (instruction_from (start k 0))) halves ∙ get_or-set_other u.harts h k half (instruction_from (start k 0)) apart)
-          (harts k other apart) (fars k apart) (spent k apart ∙ was.spent) was.in_story
+      (ap (λ (xs : List Instruction). get_or xs k (instruction_from (start k 0))) halves ∙ get_or-set_other u.harts h k half (instruction_from (start k 0)) apart)
+      (harts k other apart) (fars k apart) (spent k apart ∙ was.spent) was.in_story
 ]
 
 -- The player after an access.

@@ -1,13 +1,12 @@
 -- The text that is written is the trace of the run that was played, and what is known of each run.
-use Rattle.std.proofs.Common.{◌≡◌, ℕ, ◌+◌, List, [], map, None, refl, ap, sym, ◌∙◌}
+use Rattle.std.proofs.Common.{◌≡◌, ℕ, ◌+◌, List, [], map, refl, ap, sym, ◌∙◌}
 use Rattle.std.specs.List.{range_with_len}
 use Rattle.flex_base.specs.Place.{ram_base}
 use Rattle.flex_base.specs.Setup.{Setup}
 use Rattle.flex_base.specs.FlatMemory.{byte}
 use Rattle.flex_base.specs.Classes.{default_plan}
-use Rattle.flex_base.specs.Unsplit.{Machine, begin, reach, has_ended}
+use Rattle.flex_base.specs.Unsplit.{Machine, reach, has_ended}
 use Rattle.flex_base.specs.Rounds.{names_played}
-use Rattle.flex_base.specs.Built.{first_unbuilt}
 use Rattle.flex_base.specs.Split.{Splitting, Plan, split_run, first_split}
 use Rattle.flex_base.specs.Journal.{console}
 use Rattle.flex_base.specs.declared.event.Event.{Event}
@@ -43,11 +42,13 @@ trace_is setup order player events tail done same_events same_tail =
 -- a run of which all is built is whole
 pub built_whole : (setup : Setup) (order : List ℕ) → EndsWhole setup order
 unfolding journal_of
-built_whole setup order = record { whole = λ built. record {
-  legal = split_legal setup default_plan (names_played setup order);
-  obeys = split_obeys setup default_plan (names_played setup order);
-  ended = ap (has_ended setup) (reach-order_of setup default_plan (names_played setup order)) ∙ (run_goes_on setup order).ends built;
-} }
+built_whole setup order = record {
+  whole = λ built. record {
+    legal = split_legal setup default_plan (names_played setup order);
+    obeys = split_obeys setup default_plan (names_played setup order);
+    ended = ap (has_ended setup) (reach-order_of setup default_plan (names_played setup order)) ∙ (run_goes_on setup order).ends built;
+  };
+}
 
 -- no run sends anything to the console so far
 pub run_quiet : (setup : Setup) (order : List ℕ) → console (journal_of setup order) ≡ []

@@ -190,13 +190,7 @@ impl Player {
         match need(&self.harts[h], &self.progress[h], &layout, budget) {
             Need::Ask(access, class) => {
                 let told = act(&mut self.lines, hart, &access);
-                give(
-                    &self.harts[h],
-                    &mut self.progress[h],
-                    &layout,
-                    budget,
-                    told,
-                );
+                give(&self.harts[h], &mut self.progress[h], &layout, budget, told);
                 self.run.add(hart, class, What::Acc(access, told))?;
                 Ok(Step::Accessed)
             }

@@ -25,10 +25,10 @@ pub(crate) fn solo<O: Outer>(
         IsAnswer (answer_of (loaded file.items r.settings.ram) r.settings r.order) result }
     ensures ended { let r = reading_of_command command.now in
         result ≡ Status.Ended → Leaves (outcome_of (loaded file.items r.settings.ram) r)
-            (O.outside outer.old) (O.outside outer.new) }
+        (O.outside outer.old) (O.outside outer.new) }
     ensures cut { let r = reading_of_command command.now in
         result ≡ Status.WriteFault → LeavesPart (outcome_of (loaded file.items r.settings.ram) r)
-            (O.outside outer.old) (O.outside outer.new) }
+        (O.outside outer.old) (O.outside outer.new) }
 
     ensures nothing { result ≢ Status.Ended → result ≢ Status.WriteFault
         → (O.outside outer.new).written ≡ (O.outside outer.old).written }

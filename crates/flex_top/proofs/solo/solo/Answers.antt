@@ -1,9 +1,8 @@
 -- The answer and what is left are those of the image's run.
-use Rattle.std.proofs.Common.{◌≡◌, ℕ, List, None, Some, map, ap, sym, subst, ◌∙◌, arith}
+use Rattle.std.proofs.Common.{◌≡◌, ℕ, List, None, Some, map, sym, subst, ◌∙◌}
 use Rattle.flex_base.specs.Unsplit.{begin, reach}
 use Rattle.flex_base.specs.Rounds.{names_played}
 use Rattle.flex_base.specs.Built.{first_unbuilt}
-use Rattle.flex_base.specs.declared.settings.Settings.{Settings}
 use Rattle.flex_top.specs.Answer.{loaded, setup_of}
 use Rattle.flex_top.specs.Play.{IsReached}
 use Rattle.flex_top.specs.Words.{hart_of, reading_of_command}

@@ -1,5 +1,5 @@
 -- After the order the rounds, more than the budget has ends.
-use Rattle.std.proofs.Common.{◌≡◌, ℕ, ◌+◌, ◌-◌, ◌<◌, ◌++◌, Some, refl, sym, ap, arith}
+use Rattle.std.proofs.Common.{◌≡◌, ◌+◌, ◌-◌, ◌<◌, Some, refl, sym, ap, arith}
 use Rattle.flex_base.specs.Setup.{Setup}
 use Rattle.flex_base.specs.Unsplit.{Machine, begin, reach, hart_numbers}
 use Rattle.std.proofs.lemmas.Result.{err_from_is_err_and}

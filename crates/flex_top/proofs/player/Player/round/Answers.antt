@@ -1,5 +1,5 @@
 -- One more hart has its turn.
-use Rattle.std.proofs.Common.{◌≡◌, ℕ, ◌+◌, ◌-◌, ◌<◌, [], ◌∷◌, ◌++◌, Some, refl, sym, ap, ◌∙◌, arith, append_assoc, append-nil}
+use Rattle.std.proofs.Common.{◌≡◌, ◌+◌, ◌-◌, ◌<◌, [], ◌∷◌, ◌++◌, Some, refl, sym, ap, ◌∙◌, arith, append_assoc, append-nil}
 use Rattle.std.specs.List.{range_with_len}
 use Rattle.flex_base.specs.Unsplit.{reach, hart_numbers}
 use Rattle.flex_base.proofs.Orders.{range_with_len_push}

@@ -1,8 +1,8 @@
-use Rattle.std.proofs.Common.{◌≡◌, ℕ, ◌+◌, ◌*◌, ◌≤◌, List, [], ◌∷◌, ◌++◌, length, refl, ap, sym, ◌∙◌, arith, append_assoc}
+use Rattle.std.proofs.Common.{◌≡◌, ℕ, List, [], ◌∷◌, ◌++◌, length, ap, sym, ◌∙◌, arith, append_assoc}
 use Rattle.std.specs.List.{flat_map, range_with_len}
 use Rattle.std.proofs.lemmas.List.{append-nil}
 use Rattle.sha2.specs.Sha256.{sha256}
-use Rattle.flex_top.specs.Tail.{stop_lines, hart_lines, tail_lines}
+use Rattle.flex_top.specs.Tail.{hart_lines, tail_lines}
 use Rattle.flex_top.specs.declared.text.tail_text.TailLine.{TailLine}
 use Rattle.flex_top.specs.declared.text.tail_text.TailLine.TheVariants as tail
 use Rattle.flex_top.proofs.Tails.{range_more, lines_push}
