@@ -1,4 +1,4 @@
-use Rattle.std.proofs.Common.{ℕ, ap, sym, ◌∙◌}
+use Rattle.std.proofs.Common.{ap, sym, ◌∙◌}
 use Rattle.std.proofs.lemmas.Result.{err_from_is_err_and}
 use Rattle.image_loader.specs.Headers.{elf_header}
 use Rattle.image_loader.specs.Faults.{first_fault, header_tests, table_tests, entry_tests}
