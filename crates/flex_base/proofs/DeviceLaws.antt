@@ -60,7 +60,7 @@ harts-stores s Finisher address width value = harts-finishes s value
 harts-stores s (Msip h) address width value = harts-set_hart s h _
 harts-stores s (Mtimecmp h) address width value = harts-set_hart s h _
 harts-stores s Mtime address width value = refl
-harts-stores s other address width value = refl
+harts-stores s register address width value = refl
 
 pub harts-step : (s : DeviceState) (h : ℕ) (access : Access) → harts_in (device_step s h access) ≡ harts_in s
 harts-step s h (acc.Pulse tick) =
@@ -187,7 +187,7 @@ live_stores s Finisher address width value live =
 live_stores s (Msip h) address width value live = live_own s h _ refl live
 live_stores s (Mtimecmp h) address width value live = live_own s h _ refl live
 live_stores s Mtime address width value live = live
-live_stores s other address width value live = live
+live_stores s register address width value live = live
 
 -- where all rest and one waits, time wakes a hart or the stop is idle
 live_jumps_to : (s : DeviceState) (time : Option ℕ) → next_alarm s.harts ≡ time → IsLive (jumps_to s time)
@@ -306,7 +306,7 @@ stopped_stores first s Finisher address width value stands =
 stopped_stores first s (Msip h) address width value stands = stands
 stopped_stores first s (Mtimecmp h) address width value stands = stands
 stopped_stores first s Mtime address width value stands = stands
-stopped_stores first s other address width value stands = stands
+stopped_stores first s register address width value stands = stands
 
 pub stopped_step : (first : Stop) (s : DeviceState) (h : ℕ) (access : Access) → Stopped first s → Stopped first (device_step s h access)
 stopped_step first s h (acc.Pulse tick) stands = stopped_runs first (record s { mtime = next_mtime s.mtime tick }) h stands

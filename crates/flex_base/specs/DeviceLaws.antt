@@ -50,7 +50,7 @@ pub record IsNextAlarm (harts : List HartDevice) (time : ℕ) : Type 0 where
 
 abbrev pub is_mtime : Register → Bool
 is_mtime Mtime = true
-is_mtime other = false
+is_mtime _ = false
 
 -- an access leaves the time: a pulse adds its tick, a wait and a retirement may move it forward, a write may set it
 abbrev pub MovesTime : Access → ℕ → ℕ → Type 0

@@ -193,7 +193,7 @@ stores s Finisher address width value = finishes s value
 stores s (Msip h) address width value = puts_msip s h value
 stores s (Mtimecmp h) address width value = puts_mtimecmp s h address width value
 stores s Mtime address width value = record s { mtime = put_part address width s.mtime value }
-stores s other address width value = s
+stores s _ address width value = s
 
 -- the next byte of the input, or 0
 abbrev pub next_byte : List ℕ → ℕ
@@ -223,7 +223,7 @@ register_value s left (Mtimecmp h) address width = part address width (hart_at s
 register_value s left Mtime address width = part address width s.mtime
 register_value s left Uart address width = next_byte left
 register_value s left LineStatus address width = line_status left
-register_value s left other address width = 0
+register_value s left _ address width = 0
 
 -- Time that jumps.
 
