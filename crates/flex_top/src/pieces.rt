@@ -45,6 +45,7 @@ impl Pieces {
 
     /// Adds bytes to the text, and writes a piece to the file where one is full. Where that fails,
     /// the file has gained the first of the bytes that waited and the new ones.
+    #[inline(always)]
     pub fn add<O: Outer>(&mut self, outer: &mut O, name: &str, bytes: &[u8]) -> Result<(), Failed>
         requires { length bytes.now ≤ 65536 }
         ensures ok { OnOk result (Passes (O.outside outer.old) (O.outside outer.new) name.now

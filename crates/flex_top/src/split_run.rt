@@ -31,6 +31,7 @@ impl SplitRun {
 
     // Adds what the hart did, which is of this class, with a handover before it where that is
     // another engine's work.
+    #[inline(always)]
     pub(crate) fn add(&mut self, hart: HartId, class: Class, what: What) -> Result<(), AllocError>
         requires hart { hart.0 < length self.old.engines.items }
         requires class { class ≡ class_of_what what }
