@@ -1,15 +1,15 @@
 -- What a document without a fault says.
-use Rattle.std.proofs.Common.{◌≡◌, ℕ, ℤ, Bool, true, false, List, Option, Some, None, IfSome, option_and_then, unwrap_or, if◌then◌else◌, codes, refl, sym, ap, ◌∙◌}
+use Rattle.std.proofs.Common.{◌≡◌, ℕ, Bool, true, false, List, Option, Some, None, IfSome, option_and_then, unwrap_or, if◌then◌else◌, codes, refl, ap}
 use Rattle.std.proofs.lemmas.Option.{same_Some}
 use Rattle.toml.specs.Data.{Data, string, integer, float, boolean, datetime, array, table, Members, get_member, as_str, as_integer, as_table}
-use Rattle.flex_base.specs.Classes.{can_run, default_plan}
+use Rattle.flex_base.specs.Classes.{can_run}
 use Rattle.flex_base.specs.declared.class.Class.{Class}
 use Rattle.flex_base.specs.declared.class.Class.TheVariants as class
 use Rattle.flex_base.specs.declared.engine.Engine.{Engine}
 use Rattle.flex_base.specs.declared.engine.Engine.TheVariants as engine
 use Rattle.transplant_plan.specs.Names.{class_name, class_named, engine_name, engine_named}
 use Rattle.transplant_plan.specs.Assignment.{is_allowed, bank_counts, pipe_counts, kernel_counts}
-use Rattle.transplant_plan.specs.PlanFile.{first_fault, top_fault, engine_fault, engines_fault, class_fault, fault_in, count_fault, string_at, integer_at, table_at, engine_or, engine_by}
+use Rattle.transplant_plan.specs.PlanFile.{first_fault, top_fault, engine_fault, fault_in, count_fault, string_at, integer_at, table_at}
 use Rattle.transplant_plan.specs.declared.fault.PlanFault.{PlanFault}
 use Rattle.transplant_plan.proofs.Faults.{found_without}
 

@@ -1,5 +1,5 @@
 -- A printed plan is read back.
-use Rattle.std.proofs.Common.{◌≡◌, ℕ, ◌≤◌, lit≤, pos, true, List, [], ◌∷◌, Option, Some, None, Result, Ok, unwrap_or, fold, refl, sym, ap, ◌∙◌}
+use Rattle.std.proofs.Common.{◌≡◌, ℕ, ◌≤◌, lit≤, pos, true, List, [], ◌∷◌, Some, None, Ok, fold, refl, sym, ap, ◌∙◌}
 use Rattle.toml.specs.Data.{string, Members, no_members, members_depth}
 use Rattle.toml.specs.Parse.{parse_document}
 use Rattle.flex_base.specs.Classes.{can_run}

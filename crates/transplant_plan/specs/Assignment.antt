@@ -24,7 +24,7 @@ abbrev pub default_kernels : ℕ
 default_kernels = 1
 
 abbrev pub default_assignment : Assignment
-default_assignment = record { engines = λ hart class. default_plan class; banks = default_banks; pipes = default_pipes; kernels = default_kernels }
+default_assignment = record { engines = default_plan; banks = default_banks; pipes = default_pipes; kernels = default_kernels }
 
 -- the numbers of banks, pipes and kernels that there may be
 abbrev pub bank_counts : List ℕ

@@ -1,5 +1,5 @@
 -- The document that a plan is printed as.
-use Rattle.std.specs.Prelude.{ℕ, pos, List, [], ◌∷◌, codes, fold}
+use Rattle.std.specs.Prelude.{ℕ, pos, List, codes, fold}
 use Rattle.std.specs.Ordering.{nat_cmp, match_ordering}
 use Rattle.std.specs.Cmp.Lexicographic.{slice_cmp}
 use Rattle.toml.specs.Data.{Data, string, integer, table, Members, no_members, member}

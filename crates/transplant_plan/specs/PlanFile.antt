@@ -79,8 +79,8 @@ engine_or default None = default
 
 -- the engine of a class by the table of engines, if there is one
 abbrev pub engine_by : Option Members → Class → Engine
-engine_by (Some engines) class = engine_or (default_plan class) (string_at (class_name class) engines)
-engine_by None class = default_plan class
+engine_by (Some engines) class = engine_or (default_plan 0 class) (string_at (class_name class) engines)
+engine_by None class = default_plan 0 class
 
 -- what a document without a fault says. All harts have the same engines
 unfoldable pub assignment : Members → Assignment

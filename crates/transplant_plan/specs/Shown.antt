@@ -1,5 +1,4 @@
 -- What a plan says.
-use Rattle.std.specs.Prelude.{ℕ}
 use Rattle.transplant_plan.specs.Assignment.{Assignment}
 use Rattle.transplant_plan.specs.Planning.{engine_at}
 use Rattle.transplant_plan.specs.declared.plan.Plan.{Plan}

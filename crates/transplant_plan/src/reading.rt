@@ -133,7 +133,7 @@ fn integer_at(table: &Table, key: &str) -> Option<i64>
 }
 
 fn default_engine(class: Class) -> Engine
-    ensures value { result ≡ default_plan class }
+    ensures value { result ≡ default_plan 0 class }
     ensures capable { can_run class result ≡ true }
 {
     Plan::default_plan().engine_for(class)

@@ -1,4 +1,4 @@
-use Rattle.std.proofs.Common.{◌≡◌, false, pos, take}
+use Rattle.std.proofs.Common.{◌≡◌, false, take}
 use Rattle.transplant_plan.specs.Assignment.{is_allowed}
 use Rattle.transplant_plan.proofs.checks.count_among.Given as goal
 

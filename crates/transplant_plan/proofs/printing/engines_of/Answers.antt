@@ -1,4 +1,4 @@
-use Rattle.std.proofs.Common.{◌≡◌, sym, ap, ◌∙◌}
+use Rattle.std.proofs.Common.{sym, ap, ◌∙◌}
 use Rattle.std.proofs.lemmas.List.Sums.{fold_more}
 use Rattle.toml.specs.Data.{string, no_members}
 use Rattle.transplant_plan.specs.Document.{with_engine}

@@ -1,4 +1,4 @@
-use Rattle.std.proofs.Common.{◌≡◌, Some, string_bytes, refl, ap, ◌∙◌}
+use Rattle.std.proofs.Common.{Some, string_bytes, refl, ap, ◌∙◌}
 use Rattle.std.proofs.lemmas.Str.{IsUtf8-had}
 use Rattle.transplant_plan.specs.Shown.{shown}
 use Rattle.transplant_plan.proofs.Printed.{IsSound, depth-document, plan_of-document}

@@ -1,4 +1,4 @@
-use Rattle.std.proofs.Common.{◌≡◌, ap, ◌∙◌}
+use Rattle.std.proofs.Common.{ap, ◌∙◌}
 use Rattle.toml.specs.View.{view, members_view, table_view}
 use Rattle.transplant_plan.specs.Document.{with_member}
 use Rattle.transplant_plan.proofs.Members.{members_view-insert_entry}

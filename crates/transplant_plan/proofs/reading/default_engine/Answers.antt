@@ -1,4 +1,4 @@
-use Rattle.std.proofs.Common.{◌≡◌, ap, ◌∙◌}
+use Rattle.std.proofs.Common.{ap, ◌∙◌}
 use Rattle.transplant_plan.specs.Assignment.{Assignment}
 use Rattle.transplant_plan.proofs.reading.default_engine.Goals as goal
 

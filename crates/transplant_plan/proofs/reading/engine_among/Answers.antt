@@ -1,4 +1,4 @@
-use Rattle.std.proofs.Common.{◌≡◌, ℕ, List, Bor, option_map, sym, ap, ◌∙◌}
+use Rattle.std.proofs.Common.{ℕ, List, Bor, option_map, sym, ap, ◌∙◌}
 use Rattle.toml.specs.View.{table_view}
 use Rattle.transplant_plan.specs.PlanFile.{string_at}
 use Rattle.transplant_plan.proofs.Plans.{named_can_run}

@@ -1,4 +1,4 @@
-use Rattle.std.proofs.Common.{◌≡◌, option_map, sym, ap, ◌∙◌}
+use Rattle.std.proofs.Common.{option_map, sym, ap, ◌∙◌}
 use Rattle.toml.specs.View.{table_view}
 use Rattle.transplant_plan.proofs.Plans.{engines_sound}
 use Rattle.transplant_plan.proofs.reading.engine_in.Goals as goal

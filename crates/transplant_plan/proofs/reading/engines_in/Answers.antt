@@ -1,4 +1,4 @@
-use Rattle.std.proofs.Common.{◌≡◌, codes, arith}
+use Rattle.std.proofs.Common.{codes}
 use Rattle.toml.specs.View.{table_view}
 use Rattle.transplant_plan.specs.PlanFile.{engine_by, table_at}
 use Rattle.transplant_plan.proofs.Engines.{written}

@@ -1,4 +1,3 @@
-use Rattle.std.proofs.Common.{◌≡◌}
 use Rattle.transplant_plan.specs.PlanFile.{assignment}
 use Rattle.transplant_plan.proofs.Plans.{banks_sound, pipes_sound, kernels_sound}
 use Rattle.transplant_plan.proofs.reading.plan_from.Goals as goal
