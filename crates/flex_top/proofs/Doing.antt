@@ -13,7 +13,7 @@ use Rattle.flex_base.specs.Journal.{console}
 use Rattle.flex_base.specs.declared.event.Event.{Event}
 use Rattle.flex_base.specs.declared.settings.Settings.{Settings}
 use Rattle.flex_top.specs.Words.{Reading}
-use Rattle.flex_top.specs.Answer.{image_limit, loaded, taken, setup_of, journal_of, answer_of_run, answer_of, expected, outcome_of}
+use Rattle.flex_top.specs.Answer.{image_limit, loaded, image_from, setup_of, journal_of, answer_of_run, answer_of, expected, outcome_of}
 use Rattle.flex_top.specs.Play.{IsReached}
 use Rattle.flex_top.specs.Trace.{tail_of, whole_text}
 use Rattle.flex_top.specs.Does.{IsAnswer, Answers, IsCalm, IsEnded, WritesAll, WritesPart, Leaves, LeavesPart, Does}
@@ -43,15 +43,15 @@ within : (file : List ℕ) → length file ≤ image_limit → nat_lt image_limi
 within file fits = grind (arith, nat_tests)
 
 -- a file within the limit is loaded
-taken_within : (file : List ℕ) (ram : ℕ) → length file ≤ image_limit → taken (Some file) ram ≡ loaded file ram
+taken_within : (file : List ℕ) (ram : ℕ) → length file ≤ image_limit → image_from (Some file) ram ≡ loaded file ram
 taken_within file ram fits = ap (λ b. if b then Err (status.ImageRefused (image.TooLong (length file))) else loaded file ram) (within file fits)
 
 -- what holds of a file that was taken, holds where files are told
 told_by : (held : Option Files) (name file : List ℕ) (ram : ℕ) (P : Option (List ℕ) → Result Loaded Status → Type 0) → Taken held name image_limit (Ok file) → length file ≤ image_limit
-    → P (Some file) (loaded file ram) → IfSome held (λ files. P (files name) (taken (files name) ram))
+    → P (Some file) (loaded file ram) → IfSome held (λ files. P (files name) (image_from (files name) ram))
 told_by None name file ram P took fits holds = tt
 told_by (Some files) name file ram P took fits holds =
-    let At : Option (List ℕ) → Type 0 = λ o. P o (taken o ram) in
+    let At : Option (List ℕ) → Type 0 = λ o. P o (image_from o ram) in
     let Of : Result Loaded Status → Type 0 = λ l. P (Some file) l in
     subst At (sym took) (subst Of (sym (taken_within file ram fits)) holds)
 
@@ -60,7 +60,7 @@ expected_of : (held : Option Files) (r : Reading) (file : List ℕ) → Taken he
     → IsSomeAnd held (λ files. expected r files ≡ status.Ended) → answer_of (loaded file r.settings.ram) r.settings r.order ≡ status.Ended
 expected_of None r file took fits ends = absurd ends
 expected_of (Some files) r file took fits ends =
-    ap (λ (l : Result Loaded Status). answer_of l r.settings r.order) (sym (ap (λ (o : Option (List ℕ)). taken o r.settings.ram) took ∙ taken_within file r.settings.ram fits)) ∙ ends
+    ap (λ (l : Result Loaded Status). answer_of l r.settings r.order) (sym (ap (λ (o : Option (List ℕ)). image_from o r.settings.ram) took ∙ taken_within file r.settings.ram fits)) ∙ ends
 
 -- the same left, where the outside was as it is
 

@@ -40,9 +40,9 @@ abbrev pub image_limit : ℕ
 image_limit = 268435456
 
 -- the image of the file of a name, if there is one
-abbrev pub taken : Option (List ℕ) → ℕ → Result Loaded Status
-taken None ram = Err status.ReadFault
-taken (Some file) ram =
+abbrev pub image_from : Option (List ℕ) → ℕ → Result Loaded Status
+image_from None ram = Err status.ReadFault
+image_from (Some file) ram =
     if nat_lt image_limit (length file) then Err (status.ImageRefused (image.TooLong (length file)))
     else loaded file ram
 
@@ -87,7 +87,7 @@ answer_of (Ok image) settings order = answer_of_setup (setup_of image settings) 
 
 -- the answer that the words and the files determine
 abbrev pub expected : Reading → Files → Status
-expected r files = answer_of (taken (files r.image) r.settings.ram) r.settings r.order
+expected r files = answer_of (image_from (files r.image) r.settings.ram) r.settings r.order
 
 -- What is left.
 
@@ -106,4 +106,4 @@ outcome_of (Ok image) r = record {
 
 -- what the words and the files determine to be left
 abbrev pub outcome : Reading → Files → Outcome
-outcome r files = outcome_of (taken (files r.image) r.settings.ram) r
+outcome r files = outcome_of (image_from (files r.image) r.settings.ram) r

@@ -80,8 +80,8 @@ abbrev pub pte_text : ℕ → ℕ → List ℕ
 pte_text address entry = codes "pte " ++ hex address ++ codes " " ++ hex entry
 
 -- LINES WAITS STOP, with a space before each
-abbrev pub told_text : Reply → List ℕ
-told_text reply = codes " " ++ hex reply.lines ++ codes " " ++ decimal reply.value ++ codes " " ++ flag reply.stop
+abbrev pub lines_text : Reply → List ℕ
+lines_text reply = codes " " ++ hex reply.lines ++ codes " " ++ decimal reply.value ++ codes " " ++ flag reply.stop
 
 -- an access, with what the reply adds
 abbrev pub access_text : Access → Reply → List ℕ
@@ -96,8 +96,8 @@ access_text (acc.Amo op address width value) reply =
     codes "amo " ++ amo_text op ++ moved_text (codes " ") address width value ++ codes " " ++ hex reply.value
 access_text (acc.DevRead address width) reply = moved_text (codes "devread ") address width reply.value
 access_text (acc.DevWrite address width value) reply = moved_text (codes "devwrite ") address width value
-access_text (acc.Pulse tick) reply = codes "pulse " ++ flag tick ++ told_text reply
-access_text (acc.Wait mie) reply = codes "wait " ++ hex mie ++ told_text reply
+access_text (acc.Pulse tick) reply = codes "pulse " ++ flag tick ++ lines_text reply
+access_text (acc.Wait mie) reply = codes "wait " ++ hex mie ++ lines_text reply
 access_text acc.Retire reply = codes "retire"
 access_text acc.Time reply = codes "time " ++ hex reply.value
 

@@ -59,31 +59,31 @@ abbrev pub values : List ℕ → List (List ℕ) → List (List ℕ)
 values name words = filter_map (value_of name) words
 
 -- an option that isn't given has its default, and one that is given twice has no reading
-abbrev pub given : {A : Type 0} → A → (List ℕ → Option A) → List (List ℕ) → Option A
-given default read [] = Some default
-given default read (value ∷ []) = read value
-given default read (first ∷ second ∷ more) = None
+abbrev pub option_of : {A : Type 0} → A → (List ℕ → Option A) → List (List ℕ) → Option A
+option_of default read [] = Some default
+option_of default read (value ∷ []) = read value
+option_of default read (first ∷ second ∷ more) = None
 
 -- an option whose value is a number
 abbrev pub number_option : List ℕ → ℕ → ℕ → List (List ℕ) → Option ℕ
-number_option name default most words = given default (number most) (values name words)
+number_option name default most words = option_of default (number most) (values name words)
 
 -- the names of harts that `--order=` gives
 abbrev pub order_option : List (List ℕ) → Option (List ℕ)
-order_option words = given [] order (values (codes "--order=") words)
+order_option words = option_of [] order (values (codes "--order=") words)
 
 -- a word that begins with the text of one of the options
 abbrev pub is_option : List ℕ → Bool
 is_option word = starts_with nat_eq word (codes "--harts=") || starts_with nat_eq word (codes "--ram=")
     || starts_with nat_eq word (codes "--budget=") || starts_with nat_eq word (codes "--order=")
 
-abbrev pub sized : ℕ → ℕ → ℕ → Settings
-sized harts ram budget = record { harts = harts; ram = ram; budget = budget }
+abbrev pub run_settings : ℕ → ℕ → ℕ → Settings
+run_settings harts ram budget = record { harts = harts; ram = ram; budget = budget }
 
 -- all harts together make at most 262,144 ends
 abbrev pub reading_of : List ℕ → List ℕ → Option ℕ → Option ℕ → Option ℕ → Option (List ℕ) → Option Reading
 reading_of image trace (Some harts) (Some mebibytes) (Some budget) (Some order) = if nat_le (harts * budget) 262144
-    then Some (record { image = image; trace = trace; settings = sized harts (mebibyte * mebibytes) budget; order = order })
+    then Some (record { image = image; trace = trace; settings = run_settings harts (mebibyte * mebibytes) budget; order = order })
     else None
 reading_of image trace harts mebibytes budget order = None
 

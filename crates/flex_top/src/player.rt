@@ -70,7 +70,7 @@ impl Player {
     ) -> Result<Player, AllocError>
         ensures { IfOk result (λ player. IsStarted player settings.now entry lines) }
     {
-        let harts = started(alloc, settings.harts, entry)?;
+        let harts = first_harts(alloc, settings.harts, entry)?;
         let begun = Progress::begin();
         let progress = vec![in alloc; begun; settings.harts as usize]?;
         let run = SplitRun::new(alloc, settings.harts)?;
@@ -208,7 +208,7 @@ impl Player {
 }
 
 // So many harts at their start, at this entry.
-fn started(alloc: Global, count: u8, entry: u64) -> Result<Vec<Hart>, AllocError>
+fn first_harts(alloc: Global, count: u8, entry: u64) -> Result<Vec<Hart>, AllocError>
     ensures { IfOk result (λ harts. AreStarted entry count harts.items) }
 {
     let mut harts = Vec::with_capacity(alloc, count as usize)?;

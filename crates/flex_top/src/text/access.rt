@@ -2,7 +2,7 @@
 
 ghost use Rattle.std.specs.Prelude.{◌≡◌, ◌+◌, ◌≤◌, ◌++◌, length};
 ghost use Rattle.flex_base.specs.declared.access.Access.TheVariants as acc;
-ghost use Rattle.flex_top.specs.EventText.{amo_text, fetch_text, pte_text, moved_text, told_text, access_text};
+ghost use Rattle.flex_top.specs.EventText.{amo_text, fetch_text, pte_text, moved_text, lines_text, access_text};
 
 use crate::text::put::{put, put_digits, put_flag, put_hex, put_number, put_span};
 use flex_base::{Access, AmoOp, Line, Reply};
@@ -114,7 +114,7 @@ fn put_pulse(line: &mut Line, tick: bool, reply: &Reply)
 {
     put(line, b"pulse ");
     put_flag(line, tick);
-    put_told(line, reply);
+    put_lines(line, reply);
 }
 
 fn put_wait(line: &mut Line, mie: u64, reply: &Reply)
@@ -124,13 +124,13 @@ fn put_wait(line: &mut Line, mie: u64, reply: &Reply)
 {
     put(line, b"wait ");
     put_hex(line, mie);
-    put_told(line, reply);
+    put_lines(line, reply);
 }
 
 // What a pulse or a wait was told: the lines, and whether the wait goes on and the run stops.
-fn put_told(line: &mut Line, reply: &Reply)
+fn put_lines(line: &mut Line, reply: &Reply)
     requires { length line.old + 40 ≤ 128 }
-    ensures text { line.new ≡ line.old ++ told_text reply.now }
+    ensures text { line.new ≡ line.old ++ lines_text reply.now }
     ensures room { length line.new ≤ length line.old + 40 }
 {
     put(line, b" ");

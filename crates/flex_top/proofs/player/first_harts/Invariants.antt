@@ -1,5 +1,5 @@
 use Rattle.flex_top.specs.Play.{AreStarted}
-use Rattle.flex_top.proofs.player.started.Given as goal
+use Rattle.flex_top.proofs.player.first_harts.Given as goal
 
 -- so many harts are made
 abbrev pub invariant-loop-h : goal.invariant-loop-h
