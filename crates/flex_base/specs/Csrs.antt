@@ -330,12 +330,12 @@ abbrev pub after_write : List ℕ → ℕ → Row → List ℕ
 after_write stores value r = after_source_write stores r.source (r.writes stores value) value
 
 -- what a CSR instruction reads in this mode, with these interrupt lines and at this time; None is an illegal instruction
-abbrev pub csr_read : List ℕ → ℕ → Mode → ℕ → ℕ → Option ℕ
+unfoldable pub csr_read : List ℕ → ℕ → Mode → ℕ → ℕ → Option ℕ
 csr_read stores number mode lines time =
     if is_allowed stores number mode then option_map (value_of stores lines time) (row_of number) else None
 
 -- the stores after a CSR instruction's write; None is an illegal instruction
-abbrev pub csr_write : List ℕ → ℕ → Mode → ℕ → Option (List ℕ)
+unfoldable pub csr_write : List ℕ → ℕ → Mode → ℕ → Option (List ℕ)
 csr_write stores number mode value =
     if not (is_read_only number) && is_allowed stores number mode then option_map (after_write stores value) (row_of number) else None
 

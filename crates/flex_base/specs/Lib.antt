@@ -14,6 +14,7 @@ pub mod Decoding
 pub mod Arithmetic
 pub mod State
 pub mod Setup
+pub mod Zicsr
 pub mod Translation
 pub mod Story
 pub mod Forms

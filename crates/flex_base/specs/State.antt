@@ -2,6 +2,7 @@
 use Rattle.std.specs.Prelude.{◌≡◌, ℕ, ◌≤◌, Bool, true, false, ◌==◌, if◌then◌else◌, List, Option, None, MatchOption, replicate, slice_index, slice_set}
 use Rattle.flex_base.specs.Word.{is_multiple}
 use Rattle.flex_base.specs.Place.{in_ram}
+use Rattle.flex_base.specs.Csrs.{start_csrs, AreFit}
 use Rattle.flex_base.specs.declared.hart.Mode.{Mode}
 use Rattle.flex_base.specs.declared.hart.Mode.TheVariants as mode
 
@@ -18,6 +19,8 @@ pub record State : Type 0 where
   pub lines : ℕ
   -- whether a pulse is due
   pub due : Bool
+  -- the stores of the control and status registers
+  pub csrs : List ℕ
 
 -- the value of a register; x0 is 0
 abbrev pub reg : List ℕ → ℕ → ℕ
@@ -27,7 +30,7 @@ reg x r = if r == 0 then 0 else slice_index x r
 abbrev pub set_reg : List ℕ → ℕ → ℕ → List ℕ
 set_reg x r value = if r == 0 then x else slice_set x r value
 
--- a hart begins at the entry, in mode M, with its number in x10
+-- a hart begins at the entry, in mode M, with its number in x10 and in mhartid
 abbrev pub start : ℕ → ℕ → State
 start hart entry = record {
   pc = entry;
@@ -37,14 +40,17 @@ start hart entry = record {
   ends = 0;
   lines = 0;
   due = false;
+  csrs = start_csrs hart;
 }
 
 -- a reservation is 8 aligned bytes of RAM
 abbrev pub IsReservation : ℕ → Option ℕ → Type 0
 IsReservation ram reservation = MatchOption reservation (Unit {0}) (λ r. (is_multiple r 8 ≡ true) × (in_ram ram r 8 ≡ true))
 
--- a state that a hart can be in: the pc is aligned, the budget isn't overspent, and a reservation is 8 aligned bytes of RAM
-pub record IsFit (ram budget : ℕ) (a : State) : Type 0 where
+-- a state that one of so many harts can be in: the pc is aligned, the budget isn't overspent, a reservation is 8 aligned bytes
+-- of RAM, and the stores are such as instructions leave
+pub record IsFit (harts ram budget : ℕ) (a : State) : Type 0 where
   pub aligned : is_multiple a.pc 4 ≡ true
   pub within : a.ends ≤ budget
   pub reserved : IsReservation ram a.reservation
+  pub csrs : AreFit harts a.csrs

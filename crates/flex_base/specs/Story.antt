@@ -1,8 +1,11 @@
 -- The story of one instruction: what a hart does, from the state at the start and the replies so far.
-use Rattle.std.specs.Prelude.{ℕ, ◌+◌, ◌-◌, ◌*◌, ◌%◌, Bool, true, not, ◌&&◌, ◌==◌, nat_lt, if◌then◌else◌, List, [], ◌∷◌, None, Some}
-use Rattle.flex_base.specs.Word.{wrap, low, sign_extend, is_multiple}
+use Rattle.std.specs.Prelude.{ℕ, ◌+◌, ◌-◌, ◌*◌, ◌%◌, Bool, true, false, not, ◌&&◌, ◌||◌, ◌==◌, nat_lt, if◌then◌else◌, List, [], ◌∷◌, slice_index, Option, None, Some}
+use Rattle.flex_base.specs.Word.{wrap, low, sign_extend, is_multiple, is_set}
 use Rattle.flex_base.specs.Place.{in_ram, place_of}
-use Rattle.flex_base.specs.Causes.{instruction_address_misaligned, instruction_access_fault, illegal_instruction, load_address_misaligned, load_access_fault, store_address_misaligned, store_access_fault}
+use Rattle.flex_base.specs.Causes.{instruction_address_misaligned, instruction_access_fault, illegal_instruction, breakpoint, load_address_misaligned, load_access_fault, store_address_misaligned, store_access_fault, ecall_from}
+use Rattle.flex_base.specs.Csrs.{mstatus, TVM, TW, TSR}
+use Rattle.flex_base.specs.Traps.{Transfer, trap, mret, sret, count, takeable}
+use Rattle.flex_base.specs.Zicsr.{CSR_TIME, reads_csr, writes_csr, csr_operand, csr_result, may_use_csr, is_pending_csr, csr_value, csrs_with, count_but, makes_due, turns_translation_on}
 use Rattle.flex_base.specs.Decoding.{decoded}
 use Rattle.flex_base.specs.Arithmetic.{alu_of, muldiv_of, signed_lt}
 use Rattle.flex_base.specs.FlatMemory.{reservation_set, is_reserved}
@@ -15,7 +18,10 @@ use Rattle.flex_base.specs.declared.access.Reply.{Reply}
 use Rattle.flex_base.specs.declared.class.Class.{Class}
 use Rattle.flex_base.specs.declared.class.Class.TheVariants as class
 use Rattle.flex_base.specs.declared.event.EndPart.{EndPart}
+use Rattle.flex_base.specs.declared.hart.Mode.{Mode}
+use Rattle.flex_base.specs.declared.hart.Mode.TheVariants as mode
 use Rattle.flex_base.specs.declared.operation.AmoOp.{AmoOp}
+use Rattle.flex_base.specs.declared.operation.CsrOp.{CsrOp}
 use Rattle.flex_base.specs.declared.operation.Op.{Op}
 use Rattle.flex_base.specs.declared.settings.Place.{Place}
 use Rattle.flex_base.specs.declared.settings.Place.TheVariants as place
@@ -37,15 +43,41 @@ pub data Story : Type 0 where
   StaysOver : Story
   ComesLater : Story
 
--- an end that writes a register (0 for none) and goes on at `next`; each 64th end makes a pulse due
-abbrev pub ends : State → Class → ℕ → ℕ → ℕ → Story
-ends a class next rd value = Closes
-    (record { class = class; pc = a.pc; next = next; first = rd; second = if rd == 0 then 0 else value })
-    (record a { pc = next; x = set_reg a.x rd value; ends = a.ends + 1; due = is_multiple (a.ends + 1) 64 })
+-- The ends of instructions.
 
--- an exception of this cause and value; traps come later
+-- an instruction of this class ends, and leaves its results in a state; two values more are told of it. One end more is
+-- counted, and after each 64th a pulse is due, also where the instruction itself makes none due
+abbrev pub finishes : State → Class → State → ℕ → ℕ → Bool → Story
+finishes a class after first second due = Closes
+    (record { class = class; pc = a.pc; next = after.pc; first = first; second = second })
+    (record after { ends = a.ends + 1; due = due || is_multiple (a.ends + 1) 64 })
+
+-- what is told of a register that is written (0 for none)
+abbrev pub told_of : ℕ → ℕ → ℕ
+told_of rd value = if rd == 0 then 0 else value
+
+-- an end that writes a register (0 for none) and goes on at `next`; a cycle and an instruction are counted
+abbrev pub ends : State → Class → ℕ → ℕ → ℕ → Story
+ends a class next rd value = finishes a class
+    (record a { pc = next; x = set_reg a.x rd value; csrs = count a.csrs true true }) rd (told_of rd value) false
+
+-- a trap leads here; a cycle is counted, and no instruction
+abbrev pub enters : State → ℕ → ℕ → Transfer → Story
+enters a cause tval to = finishes a class.Trap
+    (record a { pc = to.pc; mode = to.mode; csrs = count to.stores true false }) cause tval false
+
+-- a trap of this cause and value is the end of what comes to it
 abbrev pub traps : State → ℕ → ℕ → Story
-traps a cause tval = ComesLater
+traps a cause tval = enters a cause tval (trap a.csrs a.pc a.mode cause tval)
+
+-- an illegal instruction, of which the word is told
+abbrev pub traps_illegal : State → ℕ → Story
+traps_illegal a word = traps a illegal_instruction word
+
+-- a return leads back to where a trap came from, after which a pulse is due
+abbrev pub returns : State → Transfer → Story
+returns a to = finishes a class.System
+    (record a { pc = to.pc; mode = to.mode; csrs = count to.stores true true }) 0 0 true
 
 -- a jump to a misaligned address is an exception of the jump itself (Volume I, "Control Transfer Instructions")
 abbrev pub jumps : State → ℕ → ℕ → Story
@@ -89,6 +121,53 @@ at_place place.Nowhere access fault = fault
 -- the end of a store-conditional, and of the hart's reservation with it
 abbrev pub concludes : State → ℕ → ℕ → Story
 concludes a rd result = computes (record a { reservation = None }) class.Atomic rd result
+
+-- Privileged instructions.
+
+-- an instruction of supervisors: S may make it where the bit of mstatus that traps it is clear (Volume II, "Virtualization
+-- Support in mstatus Register"), M always and U never
+abbrev pub supervises : ℕ → List ℕ → Mode → Bool
+supervises bit csrs mode.M = true
+supervises bit csrs mode.S = not (is_set bit (slice_index csrs mstatus))
+supervises bit csrs mode.U = false
+
+abbrev pub is_machine : Mode → Bool
+is_machine mode.M = true
+is_machine lower = false
+
+-- a CSR instruction writes this value, and gives the old one to its register; translation comes later
+abbrev pub puts_csr : State → ℕ → ℕ → ℕ → ℕ → Story
+puts_csr a number rd old value =
+    if turns_translation_on number value then ComesLater else finishes a class.Csr
+        (record a { pc = wrap (a.pc + 4); x = set_reg a.x rd old; csrs = count_but number (csrs_with a number value) })
+        rd (told_of rd old) (makes_due number)
+
+-- a CSR instruction has read the old value, or doesn't read
+abbrev pub updates_csr : State → CsrOp → ℕ → ℕ → ℕ → ℕ → Story
+updates_csr a does rd rs1 number old =
+    if writes_csr does rs1 then puts_csr a number rd old (csr_result does old (csr_operand does a.x rs1))
+    else computes a class.Csr rd old
+
+-- a pulse tells the interrupt lines, which count from here on, or that the run is to stop
+abbrev pub after_csr_pulse : State → CsrOp → ℕ → ℕ → ℕ → Reply → Story
+after_csr_pulse a does rd rs1 number reply =
+    if reply.stop then StaysOver
+    else updates_csr (record a { lines = reply.lines }) does rd rs1 number (csr_value a number reply.lines 0)
+
+-- what a CSR instruction reads: pending interrupts by a pulse, the time by an access of its own, all else at once
+abbrev pub asks_csr : State → CsrOp → ℕ → ℕ → ℕ → Story
+asks_csr a does rd rs1 number =
+    if is_pending_csr number then Says (acc.Pulse false) (after_csr_pulse a does rd rs1 number)
+    else (if number == CSR_TIME
+    then Says acc.Time (λ reply. updates_csr a does rd rs1 number (csr_value a number 0 reply.value))
+    else updates_csr a does rd rs1 number (csr_value a number 0 0))
+
+-- a CSR instruction; one that may not do all that it does is illegal, and does nothing
+abbrev pub uses_csr : State → ℕ → CsrOp → ℕ → ℕ → ℕ → Story
+uses_csr a word does rd rs1 number =
+    if may_use_csr a does rd rs1 number
+    then (if reads_csr does rd then asks_csr a does rd rs1 number else updates_csr a does rd rs1 number 0)
+    else traps_illegal a word
 
 -- time goes on where the ends are a positive multiple of 64
 abbrev pub is_tick : State → Bool
@@ -161,39 +240,53 @@ module _ (setup : Setup) where
       computes a class.Atomic rd (extended true width reply.value)))
 
   -- the work of a decoded instruction
-  abbrev pub works : State → Op → Story
-  works a (op.Lui rd imm) = computes a class.Alu rd imm
-  works a (op.Auipc rd imm) = computes a class.Alu rd (wrap (a.pc + imm))
-  works a (op.AluImm does rd rs1 imm) = computes a class.Alu rd (alu_of does (reg a.x rs1) imm)
-  works a (op.AluReg does rd rs1 rs2) = computes a class.Alu rd (alu_of does (reg a.x rs1) (reg a.x rs2))
-  works a (op.Muldiv does rd rs1 rs2) = computes a class.Muldiv rd (muldiv_of does (reg a.x rs1) (reg a.x rs2))
-  works a (op.Jal rd imm) = jumps a (wrap (a.pc + imm)) rd
-  works a (op.Jalr rd rs1 imm) = jumps a (even (wrap (reg a.x rs1 + imm))) rd
-  works a (op.Branch compares rs1 rs2 imm) =
+  abbrev pub works : State → ℕ → Op → Story
+  works a word (op.Lui rd imm) = computes a class.Alu rd imm
+  works a word (op.Auipc rd imm) = computes a class.Alu rd (wrap (a.pc + imm))
+  works a word (op.AluImm does rd rs1 imm) = computes a class.Alu rd (alu_of does (reg a.x rs1) imm)
+  works a word (op.AluReg does rd rs1 rs2) = computes a class.Alu rd (alu_of does (reg a.x rs1) (reg a.x rs2))
+  works a word (op.Muldiv does rd rs1 rs2) = computes a class.Muldiv rd (muldiv_of does (reg a.x rs1) (reg a.x rs2))
+  works a word (op.Jal rd imm) = jumps a (wrap (a.pc + imm)) rd
+  works a word (op.Jalr rd rs1 imm) = jumps a (even (wrap (reg a.x rs1 + imm))) rd
+  works a word (op.Branch compares rs1 rs2 imm) =
       branches a (is_taken compares (reg a.x rs1) (reg a.x rs2)) (wrap (a.pc + imm))
-  works a (op.Load width signed rd rs1 imm) = loads a width signed rd (wrap (reg a.x rs1 + imm))
-  works a (op.Store width rs1 rs2 imm) = stores a width (wrap (reg a.x rs1 + imm)) (reg a.x rs2)
-  works a (op.Lr width rd rs1 aq rl) = loads_reserved a width rd (reg a.x rs1)
-  works a (op.Sc width rd rs1 rs2 aq rl) = stores_conditional a width rd (reg a.x rs1) (reg a.x rs2)
-  works a (op.Amo does width rd rs1 rs2 aq rl) = modifies a does width rd (reg a.x rs1) (reg a.x rs2)
-  works a (op.Fence free) = passes a class.Fence
-  works a (op.FenceI free) = passes a class.Fence
-  works a (op.Illegal word) = traps a illegal_instruction word
-  works a other = ComesLater
+  works a word (op.Load width signed rd rs1 imm) = loads a width signed rd (wrap (reg a.x rs1 + imm))
+  works a word (op.Store width rs1 rs2 imm) = stores a width (wrap (reg a.x rs1 + imm)) (reg a.x rs2)
+  works a word (op.Lr width rd rs1 aq rl) = loads_reserved a width rd (reg a.x rs1)
+  works a word (op.Sc width rd rs1 rs2 aq rl) = stores_conditional a width rd (reg a.x rs1) (reg a.x rs2)
+  works a word (op.Amo does width rd rs1 rs2 aq rl) = modifies a does width rd (reg a.x rs1) (reg a.x rs2)
+  works a word (op.Fence free) = passes a class.Fence
+  works a word (op.FenceI free) = passes a class.Fence
+  works a word (op.Csr does rd rs1 number) = uses_csr a word does rd rs1 number
+  works a word op.Ecall = traps a (ecall_from a.mode) 0
+  works a word op.Ebreak = traps a breakpoint 0
+  works a word op.Mret = if is_machine a.mode then returns a (mret a.csrs) else traps_illegal a word
+  works a word op.Sret = if supervises TSR a.csrs a.mode then returns a (sret a.csrs) else traps_illegal a word
+  works a word op.Wfi = if supervises TW a.csrs a.mode then ComesLater else traps_illegal a word
+  works a word (op.SfenceVma rs1 rs2) = if supervises TVM a.csrs a.mode then ComesLater else traps_illegal a word
+  works a word (op.Illegal whole) = traps_illegal a whole
 
-  -- the fetch; in mode M no address is translated
+  -- the fetch; no address is translated
   abbrev pub fetches : State → Story
   fetches a = if in_ram setup.ram a.pc 4
-      then Says (acc.Fetch a.pc) (λ reply. works a (decoded reply.value))
+      then Says (acc.Fetch a.pc) (λ reply. works a reply.value (decoded reply.value))
       else traps a instruction_access_fault a.pc
+
+  -- an interrupt that can be taken is, before the instruction (Volume II, "Machine Interrupt Registers (mip and mie)")
+  abbrev pub interrupted_by : State → Option ℕ → Story
+  interrupted_by a None = fetches a
+  interrupted_by a (Some cause) = traps a cause 0
+
+  abbrev pub begins : State → Story
+  begins a = interrupted_by a (takeable a.csrs a.lines a.mode)
 
   -- a pulse tells the lines, which count from here on, or that the run is to stop
   abbrev pub after_pulse : State → Reply → Story
-  after_pulse a reply = if reply.stop then StaysOver else fetches (record a { lines = reply.lines })
+  after_pulse a reply = if reply.stop then StaysOver else begins (record a { lines = reply.lines })
 
   -- the pulse, where one is due
   abbrev pub pulses : State → Story
-  pulses a = if a.due then Says (acc.Pulse (is_tick a)) (after_pulse a) else fetches a
+  pulses a = if a.due then Says (acc.Pulse (is_tick a)) (after_pulse a) else begins a
 
   -- the whole instruction; a hart that has spent its budget retires
   abbrev pub story : State → Story

@@ -64,7 +64,7 @@ trap_to_s stores pc from cause tval = record {
 }
 
 -- a trap of this cause and value, taken in this mode at this address
-abbrev pub trap : List ℕ → ℕ → Mode → ℕ → ℕ → Transfer
+unfoldable pub trap : List ℕ → ℕ → Mode → ℕ → ℕ → Transfer
 trap stores pc from cause tval =
     if goes_to_s stores from cause then trap_to_s stores pc from cause tval else trap_to_m stores pc from cause tval
 
@@ -87,14 +87,14 @@ abbrev pub mstatus_after_sret : ℕ → ℕ
 mstatus_after_sret status = with_bit MPRV 0 (with_bit SPP 0 (with_bit SPIE 1 (with_bit SIE (field SPIE 1 status) status)))
 
 -- MRET and SRET (Volume II, "Trap-Return Instructions")
-abbrev pub mret : List ℕ → Transfer
+unfoldable pub mret : List ℕ → Transfer
 mret stores = record {
   stores = slice_set stores mstatus (mstatus_after_mret (slice_index stores mstatus));
   pc = slice_index stores mepc;
   mode = mode_of (field MPP 2 (slice_index stores mstatus));
 }
 
-abbrev pub sret : List ℕ → Transfer
+unfoldable pub sret : List ℕ → Transfer
 sret stores = record {
   stores = slice_set stores mstatus (mstatus_after_sret (slice_index stores mstatus));
   pc = slice_index stores sepc;
@@ -106,7 +106,7 @@ abbrev pub with_one_more : ℕ → List ℕ → List ℕ
 with_one_more place stores = slice_set stores place (wrap (slice_index stores place + 1))
 
 -- the counters after an end: of cycles, of instructions, or of both (Volume II, "Hardware Performance Monitor")
-abbrev pub count : List ℕ → Bool → Bool → List ℕ
+unfoldable pub count : List ℕ → Bool → Bool → List ℕ
 count stores cycle instret =
     let cycles : List ℕ = if cycle then with_one_more mcycle stores else stores in
     if instret then with_one_more minstret cycles else cycles

@@ -86,7 +86,7 @@ module _ (setup : Setup) where
   -- memory's or the devices' reply
   abbrev pub reply_to : Machine → ℕ → Access → Reply
   reply_to u h access =
-      if is_ram_access access then flat setup.image u.ram h access else device_reply u.devices h access
+      if is_ram_access access then flat setup.image u.ram h access else device_reply u.devices access
 
   -- the event that the hart wants; where it wants none, nothing
   abbrev pub make : Machine → ℕ → Want → Machine
