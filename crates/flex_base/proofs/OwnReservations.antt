@@ -3,14 +3,19 @@ use Rattle.std.proofs.Common.{◌≡◌, ◌≢◌, ℕ, ◌+◌, ◌<◌, Bool,
 use Rattle.std.proofs.lemmas.Bool.{cases_eq, ne_eqb}
 use Rattle.std.proofs.lemmas.Bool.Decides.{nat_tests}
 use Rattle.std.proofs.lemmas.List.Sums.{fold_push}
-use Rattle.flex_base.specs.Causes.{instruction_access_fault, load_address_misaligned, load_access_fault, store_address_misaligned, store_access_fault}
+use Rattle.flex_base.specs.Causes.{instruction_address_misaligned, instruction_access_fault, load_address_misaligned, load_access_fault, store_address_misaligned, store_access_fault}
 use Rattle.flex_base.specs.Setup.{Setup}
 use Rattle.flex_base.specs.State.{State, reg, start}
 use Rattle.flex_base.specs.Place.{in_ram, place_of}
 use Rattle.flex_base.specs.Word.{wrap, is_multiple}
 use Rattle.flex_base.specs.Decoding.{decoded}
 use Rattle.flex_base.specs.FlatMemory.{Done, reservation_set, is_reserved, is_ram_access}
-use Rattle.flex_base.specs.Story.{Want, Asks, Ends, IsOver, IsLater, Story, Says, Closes, StaysOver, ComesLater, story, pulses, after_pulse, fetches, works, jumps, branches, is_taken, traps, at_place, reaches, reaches_ram, is_tick, goes, want, concludes}
+use Rattle.flex_base.specs.Story.{Want, Asks, Ends, IsOver, IsLater, Story, Says, Closes, StaysOver, ComesLater, story, pulses, after_pulse, begins, interrupted_by, fetches, works, jumps, branches, is_taken, ends, computes, passes, traps, traps_illegal, returns, supervises, is_machine, puts_csr, updates_csr, asks_csr, uses_csr, at_place, reaches, reaches_ram, is_tick, goes, want, concludes}
+use Rattle.flex_base.specs.Csrs.{TVM, TW, TSR}
+use Rattle.flex_base.specs.Traps.{mret, sret, takeable}
+use Rattle.flex_base.specs.Zicsr.{CSR_TIME, reads_csr, writes_csr, csr_operand, csr_result, may_use_csr, is_pending_csr, csr_value, turns_translation_on}
+use Rattle.flex_base.specs.declared.class.Class.TheVariants as class
+use Rattle.flex_base.specs.declared.operation.CsrOp.{CsrOp}
 use Rattle.flex_base.specs.Unsplit.{Machine, story_of, want_of, reply_to, begin, make, step, reach, reach_from, with_access}
 use Rattle.flex_base.specs.Reservations.{reserving, own_after, own_reservation, IsOwn, accesses_in, AsksReserved}
 use Rattle.flex_base.specs.declared.access.Access.{Access}
@@ -62,20 +67,21 @@ module _ (setup : Setup) (own : Option ℕ) (a : State) (held : IsOwn own a.rese
   reaches_reserves : (address width misaligned fault : ℕ) (access : Story) → Reserves own access
       → Reserves own (reaches setup a address width misaligned fault access)
   reaches_reserves address width misaligned fault access reserves =
-      either own (is_multiple address width) _ _
-      (at_place_reserves own (place_of setup.harts setup.ram address width) access (traps a fault address) reserves tt) tt
+      either own (is_multiple address width) _ (traps a misaligned address)
+      (at_place_reserves own (place_of setup.harts setup.ram address width) access (traps a fault address) reserves held) held
 
   reaches_ram_reserves : (address width misaligned fault : ℕ) (access : Story) → Reserves own access
       → Reserves own (reaches_ram setup a address width misaligned fault access)
   reaches_ram_reserves address width misaligned fault access reserves =
-      either own (is_multiple address width) _ _
-      (either own (in_ram setup.ram address width) access (traps a fault address) reserves tt) tt
+      either own (is_multiple address width) _ (traps a misaligned address)
+      (either own (in_ram setup.ram address width) access (traps a fault address) reserves held) held
 
   jumps_reserves : (target rd : ℕ) → Reserves own (jumps a target rd)
-  jumps_reserves target rd = either own (is_multiple target 4) _ _ held tt
+  jumps_reserves target rd = either own (is_multiple target 4) (ends a class.Jump target rd (wrap (a.pc + 4)))
+      (traps a instruction_address_misaligned target) held held
 
   branches_reserves : (taken : Bool) (target : ℕ) → Reserves own (branches a taken target)
-  branches_reserves taken target = either own taken _ _ (jumps_reserves target 0) held
+  branches_reserves taken target = either own taken _ (passes a class.Jump) (jumps_reserves target 0) held
 
   conditional : (rd address width value : ℕ) (b : Bool) → is_reserved a.reservation (reservation_set address) ≡ b
       → Reserves own (if b then Says (acc.Sc address width value) (λ reply. concludes a rd reply.value) else concludes a rd 1)
@@ -83,42 +89,83 @@ module _ (setup : Setup) (own : Option ℕ) (a : State) (held : IsOwn own a.rese
       (held (reservation_set address) (reserved_is a.reservation (reservation_set address) e), λ reply. none_own _)
   conditional rd address width value false e = none_own own
 
-  works_reserves : (o : Op) → Reserves own (works setup a o)
-  works_reserves (op.Lui rd imm) = held
-  works_reserves (op.Auipc rd imm) = held
-  works_reserves (op.AluImm does rd rs1 imm) = held
-  works_reserves (op.AluReg does rd rs1 rs2) = held
-  works_reserves (op.Muldiv does rd rs1 rs2) = held
-  works_reserves (op.Jal rd imm) = jumps_reserves _ rd
-  works_reserves (op.Jalr rd rs1 imm) = jumps_reserves _ rd
-  works_reserves (op.Branch compares rs1 rs2 imm) =
+  -- whatever interrupt lines it has by then
+  updates_csr_reserves : (lines : ℕ) (does : CsrOp) (rd rs1 number old : ℕ)
+      → Reserves own (updates_csr (record a { lines = lines }) does rd rs1 number old)
+  updates_csr_reserves lines does rd rs1 number old =
+      let b : State = record a { lines = lines } in
+      let value = csr_result does old (csr_operand does a.x rs1) in
+      either own (writes_csr does rs1) (puts_csr b number rd old value) (computes b class.Csr rd old)
+      (either own (turns_translation_on number value) ComesLater _ tt held) held
+
+  asks_csr_reserves : (does : CsrOp) (rd rs1 number : ℕ) → Reserves own (asks_csr a does rd rs1 number)
+  asks_csr_reserves does rd rs1 number =
+      either own (is_pending_csr number) _ _
+      (tt, λ reply. either own reply.stop StaysOver _ tt
+      (updates_csr_reserves reply.lines does rd rs1 number (csr_value a number reply.lines 0)))
+      (either own (number == CSR_TIME) _ _
+      (tt, λ reply. updates_csr_reserves a.lines does rd rs1 number (csr_value a number 0 reply.value))
+      (updates_csr_reserves a.lines does rd rs1 number (csr_value a number 0 0)))
+
+  uses_csr_reserves : (word : ℕ) (does : CsrOp) (rd rs1 number : ℕ) → Reserves own (uses_csr a word does rd rs1 number)
+  uses_csr_reserves word does rd rs1 number =
+      either own (may_use_csr a does rd rs1 number) _ (traps_illegal a word)
+      (either own (reads_csr does rd) _ _ (asks_csr_reserves does rd rs1 number)
+      (updates_csr_reserves a.lines does rd rs1 number 0)) held
+
+  works_reserves : (word : ℕ) (o : Op) → Reserves own (works setup a word o)
+  works_reserves word (op.Lui rd imm) = held
+  works_reserves word (op.Auipc rd imm) = held
+  works_reserves word (op.AluImm does rd rs1 imm) = held
+  works_reserves word (op.AluReg does rd rs1 rs2) = held
+  works_reserves word (op.Muldiv does rd rs1 rs2) = held
+  works_reserves word (op.Jal rd imm) = jumps_reserves _ rd
+  works_reserves word (op.Jalr rd rs1 imm) = jumps_reserves _ rd
+  works_reserves word (op.Branch compares rs1 rs2 imm) =
       branches_reserves (is_taken compares (reg a.x rs1) (reg a.x rs2)) (wrap (a.pc + imm))
-  works_reserves (op.Load width signed rd rs1 imm) =
+  works_reserves word (op.Load width signed rd rs1 imm) =
       reaches_reserves _ width load_address_misaligned load_access_fault _ (tt, λ reply. held)
-  works_reserves (op.Store width rs1 rs2 imm) =
+  works_reserves word (op.Store width rs1 rs2 imm) =
       reaches_reserves _ width store_address_misaligned store_access_fault _ (tt, λ reply. held)
-  works_reserves (op.Lr width rd rs1 aq rl) =
+  works_reserves word (op.Lr width rd rs1 aq rl) =
       reaches_ram_reserves _ width load_address_misaligned load_access_fault _
       (tt, λ reply set e. e)
-  works_reserves (op.Sc width rd rs1 rs2 aq rl) =
+  works_reserves word (op.Sc width rd rs1 rs2 aq rl) =
       reaches_ram_reserves _ width store_address_misaligned store_access_fault _
       (conditional rd (reg a.x rs1) width _ (is_reserved a.reservation (reservation_set (reg a.x rs1))) refl)
-  works_reserves (op.Amo does width rd rs1 rs2 aq rl) =
+  works_reserves word (op.Amo does width rd rs1 rs2 aq rl) =
       reaches_ram_reserves _ width store_address_misaligned store_access_fault _ (tt, λ reply. held)
-  works_reserves (op.Fence free) = held
-  works_reserves (op.FenceI free) = held
-  works_reserves other = tt
+  works_reserves word (op.Fence free) = held
+  works_reserves word (op.FenceI free) = held
+  works_reserves word (op.Csr does rd rs1 number) = uses_csr_reserves word does rd rs1 number
+  works_reserves word op.Ecall = held
+  works_reserves word op.Ebreak = held
+  works_reserves word op.Mret =
+      either own (is_machine a.mode) (returns a (mret a.csrs)) (traps_illegal a word) held held
+  works_reserves word op.Sret =
+      either own (supervises TSR a.csrs a.mode) (returns a (sret a.csrs)) (traps_illegal a word) held held
+  works_reserves word op.Wfi = either own (supervises TW a.csrs a.mode) ComesLater (traps_illegal a word) tt held
+  works_reserves word (op.SfenceVma rs1 rs2) =
+      either own (supervises TVM a.csrs a.mode) ComesLater (traps_illegal a word) tt held
+  works_reserves word (op.Illegal whole) = held
 
   fetches_reserves : Reserves own (fetches setup a)
   fetches_reserves =
       either own (in_ram setup.ram a.pc 4) (goes_on setup a) (traps a instruction_access_fault a.pc)
-      (tt, λ reply. works_reserves (decoded reply.value)) tt
+      (tt, λ reply. works_reserves reply.value (decoded reply.value)) held
+
+  interrupted_reserves : (by : Option ℕ) → Reserves own (interrupted_by setup a by)
+  interrupted_reserves None = fetches_reserves
+  interrupted_reserves (Some cause) = held
+
+  begins_reserves : Reserves own (begins setup a)
+  begins_reserves = interrupted_reserves (takeable a.csrs a.lines a.mode)
 
 pulses_reserves : (setup : Setup) (own : Option ℕ) (a : State) → IsOwn own a.reservation → Reserves own (pulses setup a)
 pulses_reserves setup own a held =
-    either own a.due (Says (acc.Pulse (is_tick a)) (after_pulse setup a)) (fetches setup a)
-    (tt, λ reply. either own reply.stop StaysOver _ tt (fetches_reserves setup own (record a { lines = reply.lines }) held))
-    (fetches_reserves setup own a held)
+    either own a.due (Says (acc.Pulse (is_tick a)) (after_pulse setup a)) (begins setup a)
+    (tt, λ reply. either own reply.stop StaysOver _ tt (begins_reserves setup own (record a { lines = reply.lines }) held))
+    (begins_reserves setup own a held)
 
 pub story_reserves : (setup : Setup) (own : Option ℕ) (a : State) → IsOwn own a.reservation → Reserves own (story setup a)
 story_reserves setup own a held =

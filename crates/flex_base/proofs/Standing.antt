@@ -1,5 +1,5 @@
 -- How each hart stands in every state that an order leads to.
-use Rattle.std.proofs.Common.{◌≡◌, ◌≢◌, ℕ, ◌+◌, ◌*◌, ◌<◌, ◌≤◌, zero, suc, Bool, true, false, ◌&&◌, ◌||◌, if◌then◌else◌, nat_lt, List, [], ◌∷◌, ◌++◌, ◌==◌, length, filter, append-nil, inl, inr, refl, ap, sym, subst, ◌∙◌, arith, eq-eqb}
+use Rattle.std.proofs.Common.{◌≡◌, ◌≢◌, ℕ, ◌+◌, ◌*◌, ◌<◌, ◌≤◌, zero, suc, Bool, true, false, ◌&&◌, ◌||◌, if◌then◌else◌, nat_lt, List, [], ◌∷◌, ◌++◌, ◌==◌, length, filter, append-nil, Option, None, Some, inl, inr, refl, ap, sym, subst, ◌∙◌, arith, eq-eqb}
 use Rattle.std.proofs.lemmas.Bool.{cases_eq, ne_eqb, or_left, or_right}
 use Rattle.std.proofs.lemmas.List.{length_push}
 use Rattle.std.proofs.lemmas.List.Elements.{filter-append}
@@ -9,12 +9,17 @@ use Rattle.flex_base.specs.Setup.{Setup}
 use Rattle.flex_base.specs.State.{State, reg, start}
 use Rattle.flex_base.specs.Place.{in_ram, place_of}
 use Rattle.flex_base.specs.Word.{wrap, is_multiple}
-use Rattle.flex_base.specs.Causes.{instruction_access_fault, load_address_misaligned, load_access_fault, store_address_misaligned, store_access_fault}
+use Rattle.flex_base.specs.Causes.{instruction_address_misaligned, instruction_access_fault, load_address_misaligned, load_access_fault, store_address_misaligned, store_access_fault}
 use Rattle.flex_base.specs.Decoding.{decoded}
 use Rattle.flex_base.specs.FlatMemory.{Done, flat, reply_with, is_ram_access, is_reserved, reservation_set}
-use Rattle.flex_base.specs.Story.{Want, Asks, Ends, IsOver, IsLater, Story, Says, Closes, StaysOver, ComesLater, pulses, after_pulse, fetches, works, jumps, branches, is_taken, traps, at_place, reaches, reaches_ram, is_tick, want}
+use Rattle.flex_base.specs.Story.{Want, Asks, Ends, IsOver, IsLater, Story, Says, Closes, StaysOver, ComesLater, pulses, after_pulse, begins, interrupted_by, fetches, works, jumps, branches, is_taken, ends, computes, traps, traps_illegal, returns, supervises, is_machine, puts_csr, updates_csr, asks_csr, uses_csr, at_place, reaches, reaches_ram, is_tick, want}
+use Rattle.flex_base.specs.Csrs.{TVM, TW, TSR}
+use Rattle.flex_base.specs.Traps.{mret, sret, takeable}
+use Rattle.flex_base.specs.Zicsr.{CSR_TIME, reads_csr, writes_csr, csr_operand, csr_result, may_use_csr, is_pending_csr, csr_value, turns_translation_on}
+use Rattle.flex_base.specs.declared.class.Class.TheVariants as class
+use Rattle.flex_base.specs.declared.operation.CsrOp.{CsrOp}
 use Rattle.flex_base.specs.Unsplit.{Machine, Instruction, Made, instruction_from, instruction_at, story_of, want_of, reply_to, begin, make, with_access, does, step, reach, reach_from}
-use Rattle.flex_base.specs.DevicesSoFar.{is_retire, is_spent}
+use Rattle.flex_base.specs.DevicesSoFar.{device_reply, is_retire, is_spent}
 use Rattle.flex_base.specs.Rounds.{most_events}
 use Rattle.flex_base.specs.EndOfRun.{count_of}
 use Rattle.flex_base.specs.declared.access.Access.{Access}
@@ -55,52 +60,86 @@ at_place_leads n ends place.Ram access fault first second = first
 at_place_leads n ends place.Device access fault first second = tt
 at_place_leads n ends place.Nowhere access fault first second = second
 
-reaches_leads : (setup : Setup) (a : State) (n address width misaligned fault : ℕ) (access : Story) → Leads n a.ends access → Leads n a.ends (reaches setup a address width misaligned fault access)
+reaches_leads : (setup : Setup) (a : State) (n address width misaligned fault : ℕ) (access : Story) → Leads (suc n) a.ends access → Leads (suc n) a.ends (reaches setup a address width misaligned fault access)
 reaches_leads setup a n address width misaligned fault access leads =
-    either_leads n a.ends (is_multiple address width) _ _ (at_place_leads n a.ends (place_of setup.harts setup.ram address width) access (traps a fault address) leads tt) tt
+    either_leads (suc n) a.ends (is_multiple address width) _ _ (at_place_leads (suc n) a.ends (place_of setup.harts setup.ram address width) access (traps a fault address) leads refl) refl
 
-reaches_ram_leads : (setup : Setup) (a : State) (n address width misaligned fault : ℕ) (access : Story) → Leads n a.ends access → Leads n a.ends (reaches_ram setup a address width misaligned fault access)
+reaches_ram_leads : (setup : Setup) (a : State) (n address width misaligned fault : ℕ) (access : Story) → Leads (suc n) a.ends access → Leads (suc n) a.ends (reaches_ram setup a address width misaligned fault access)
 reaches_ram_leads setup a n address width misaligned fault access leads =
-    either_leads n a.ends (is_multiple address width) _ _ (either_leads n a.ends (in_ram setup.ram address width) access (traps a fault address) leads tt) tt
+    either_leads (suc n) a.ends (is_multiple address width) _ _ (either_leads (suc n) a.ends (in_ram setup.ram address width) access (traps a fault address) leads refl) refl
 
 jumps_leads : (a : State) (n target rd : ℕ) → Leads (suc n) a.ends (jumps a target rd)
-jumps_leads a n target rd = either_leads (suc n) a.ends (is_multiple target 4) _ _ refl tt
+jumps_leads a n target rd =
+    either_leads (suc n) a.ends (is_multiple target 4) (ends a class.Jump target rd (wrap (a.pc + 4))) (traps a instruction_address_misaligned target) refl refl
 
 branches_leads : (a : State) (n : ℕ) (taken : Bool) (target : ℕ) → Leads (suc n) a.ends (branches a taken target)
 branches_leads a n taken target = either_leads (suc n) a.ends taken _ _ (jumps_leads a n target 0) refl
-
--- an instruction makes at most one access before its end
-works_leads : (setup : Setup) (a : State) (n : ℕ) (o : Op) → Leads (suc (suc n)) a.ends (works setup a o)
-works_leads setup a n (op.Lui rd imm) = refl
-works_leads setup a n (op.Auipc rd imm) = refl
-works_leads setup a n (op.AluImm does rd rs1 imm) = refl
-works_leads setup a n (op.AluReg does rd rs1 rs2) = refl
-works_leads setup a n (op.Muldiv does rd rs1 rs2) = refl
-works_leads setup a n (op.Jal rd imm) = jumps_leads a (suc n) _ rd
-works_leads setup a n (op.Jalr rd rs1 imm) = jumps_leads a (suc n) _ rd
-works_leads setup a n (op.Branch compares rs1 rs2 imm) = branches_leads a (suc n) (is_taken compares (reg a.x rs1) (reg a.x rs2)) (wrap (a.pc + imm))
-works_leads setup a n (op.Load width signed rd rs1 imm) = reaches_leads setup a (suc (suc n)) _ width load_address_misaligned load_access_fault _ (tt, λ reply going. refl)
-works_leads setup a n (op.Store width rs1 rs2 imm) = reaches_leads setup a (suc (suc n)) _ width store_address_misaligned store_access_fault _ (tt, λ reply going. refl)
-works_leads setup a n (op.Lr width rd rs1 aq rl) = reaches_ram_leads setup a (suc (suc n)) _ width load_address_misaligned load_access_fault _ (tt, λ reply going. refl)
-works_leads setup a n (op.Sc width rd rs1 rs2 aq rl) =
-    reaches_ram_leads setup a (suc (suc n)) _ width store_address_misaligned store_access_fault _ (either_leads (suc (suc n)) a.ends (is_reserved a.reservation (reservation_set (reg a.x rs1))) _ _ (tt, λ reply going. refl) refl)
-works_leads setup a n (op.Amo does width rd rs1 rs2 aq rl) = reaches_ram_leads setup a (suc (suc n)) _ width store_address_misaligned store_access_fault _ (tt, λ reply going. refl)
-works_leads setup a n (op.Fence free) = refl
-works_leads setup a n (op.FenceI free) = refl
-works_leads setup a n other = tt
-
-fetches_leads : (setup : Setup) (a : State) (n : ℕ) → Leads (suc (suc (suc n))) a.ends (fetches setup a)
-fetches_leads setup a n =
-    either_leads (suc (suc (suc n))) a.ends (in_ram setup.ram a.pc 4) (goes_on setup a) (traps a instruction_access_fault a.pc) (tt, λ reply going. works_leads setup a n (decoded reply.value)) tt
 
 unstopped_leads : (n ends : ℕ) (stop : Bool) (s : Story) → stop ≡ false → Leads n ends s → Leads n ends (if stop then StaysOver else s)
 unstopped_leads n ends true s going leads = absurd cc
 unstopped_leads n ends false s going leads = leads
 
+updates_csr_leads : (a : State) (n : ℕ) (does : CsrOp) (rd rs1 number old : ℕ) → Leads (suc n) a.ends (updates_csr a does rd rs1 number old)
+updates_csr_leads a n does rd rs1 number old =
+    either_leads (suc n) a.ends (writes_csr does rs1) (puts_csr a number rd old (csr_result does old (csr_operand does a.x rs1))) (computes a class.Csr rd old)
+    (either_leads (suc n) a.ends (turns_translation_on number (csr_result does old (csr_operand does a.x rs1))) _ _ tt refl) refl
+
+asks_csr_leads : (a : State) (n : ℕ) (does : CsrOp) (rd rs1 number : ℕ) → Leads (suc (suc n)) a.ends (asks_csr a does rd rs1 number)
+asks_csr_leads a n does rd rs1 number =
+    either_leads (suc (suc n)) a.ends (is_pending_csr number) _ _
+    (tt, λ reply going. unstopped_leads (suc n) a.ends reply.stop _ going (updates_csr_leads (record a { lines = reply.lines }) n does rd rs1 number (csr_value a number reply.lines 0)))
+    (either_leads (suc (suc n)) a.ends (number == CSR_TIME) _ _
+    (tt, λ reply going. updates_csr_leads a n does rd rs1 number (csr_value a number 0 reply.value))
+    (updates_csr_leads a (suc n) does rd rs1 number (csr_value a number 0 0)))
+
+uses_csr_leads : (a : State) (n word : ℕ) (does : CsrOp) (rd rs1 number : ℕ) → Leads (suc (suc n)) a.ends (uses_csr a word does rd rs1 number)
+uses_csr_leads a n word does rd rs1 number =
+    either_leads (suc (suc n)) a.ends (may_use_csr a does rd rs1 number) _ (traps_illegal a word)
+    (either_leads (suc (suc n)) a.ends (reads_csr does rd) _ _ (asks_csr_leads a n does rd rs1 number) (updates_csr_leads a (suc n) does rd rs1 number 0))
+    refl
+
+-- an instruction makes at most one access before its end
+works_leads : (setup : Setup) (a : State) (n word : ℕ) (o : Op) → Leads (suc (suc n)) a.ends (works setup a word o)
+works_leads setup a n word (op.Lui rd imm) = refl
+works_leads setup a n word (op.Auipc rd imm) = refl
+works_leads setup a n word (op.AluImm does rd rs1 imm) = refl
+works_leads setup a n word (op.AluReg does rd rs1 rs2) = refl
+works_leads setup a n word (op.Muldiv does rd rs1 rs2) = refl
+works_leads setup a n word (op.Jal rd imm) = jumps_leads a (suc n) _ rd
+works_leads setup a n word (op.Jalr rd rs1 imm) = jumps_leads a (suc n) _ rd
+works_leads setup a n word (op.Branch compares rs1 rs2 imm) = branches_leads a (suc n) (is_taken compares (reg a.x rs1) (reg a.x rs2)) (wrap (a.pc + imm))
+works_leads setup a n word (op.Load width signed rd rs1 imm) = reaches_leads setup a (suc n) _ width load_address_misaligned load_access_fault _ (tt, λ reply going. refl)
+works_leads setup a n word (op.Store width rs1 rs2 imm) = reaches_leads setup a (suc n) _ width store_address_misaligned store_access_fault _ (tt, λ reply going. refl)
+works_leads setup a n word (op.Lr width rd rs1 aq rl) = reaches_ram_leads setup a (suc n) _ width load_address_misaligned load_access_fault _ (tt, λ reply going. refl)
+works_leads setup a n word (op.Sc width rd rs1 rs2 aq rl) =
+    reaches_ram_leads setup a (suc n) _ width store_address_misaligned store_access_fault _ (either_leads (suc (suc n)) a.ends (is_reserved a.reservation (reservation_set (reg a.x rs1))) _ _ (tt, λ reply going. refl) refl)
+works_leads setup a n word (op.Amo does width rd rs1 rs2 aq rl) = reaches_ram_leads setup a (suc n) _ width store_address_misaligned store_access_fault _ (tt, λ reply going. refl)
+works_leads setup a n word (op.Fence free) = refl
+works_leads setup a n word (op.FenceI free) = refl
+works_leads setup a n word (op.Csr does rd rs1 number) = uses_csr_leads a n word does rd rs1 number
+works_leads setup a n word op.Ecall = refl
+works_leads setup a n word op.Ebreak = refl
+works_leads setup a n word op.Mret = either_leads (suc (suc n)) a.ends (is_machine a.mode) (returns a (mret a.csrs)) (traps_illegal a word) refl refl
+works_leads setup a n word op.Sret = either_leads (suc (suc n)) a.ends (supervises TSR a.csrs a.mode) (returns a (sret a.csrs)) (traps_illegal a word) refl refl
+works_leads setup a n word op.Wfi = either_leads (suc (suc n)) a.ends (supervises TW a.csrs a.mode) ComesLater (traps_illegal a word) tt refl
+works_leads setup a n word (op.SfenceVma rs1 rs2) = either_leads (suc (suc n)) a.ends (supervises TVM a.csrs a.mode) ComesLater (traps_illegal a word) tt refl
+works_leads setup a n word (op.Illegal whole) = refl
+
+fetches_leads : (setup : Setup) (a : State) (n : ℕ) → Leads (suc (suc (suc n))) a.ends (fetches setup a)
+fetches_leads setup a n =
+    either_leads (suc (suc (suc n))) a.ends (in_ram setup.ram a.pc 4) (goes_on setup a) (traps a instruction_access_fault a.pc) (tt, λ reply going. works_leads setup a n reply.value (decoded reply.value)) refl
+
+interrupted_leads : (setup : Setup) (a : State) (n : ℕ) (by : Option ℕ) → Leads (suc (suc (suc n))) a.ends (interrupted_by setup a by)
+interrupted_leads setup a n None = fetches_leads setup a n
+interrupted_leads setup a n (Some cause) = refl
+
+begins_leads : (setup : Setup) (a : State) (n : ℕ) → Leads (suc (suc (suc n))) a.ends (begins setup a)
+begins_leads setup a n = interrupted_leads setup a n (takeable a.csrs a.lines a.mode)
+
 pulses_leads : (setup : Setup) (a : State) → Leads 10 a.ends (pulses setup a)
-pulses_leads setup a = either_leads 10 a.ends a.due (Says (acc.Pulse (is_tick a)) (after_pulse setup a)) (fetches setup a)
-    (tt, λ reply going. unstopped_leads 9 a.ends reply.stop _ going (fetches_leads setup (record a { lines = reply.lines }) 6))
-    (fetches_leads setup a 7)
+pulses_leads setup a = either_leads 10 a.ends a.due (Says (acc.Pulse (is_tick a)) (after_pulse setup a)) (begins setup a)
+    (tt, λ reply going. unstopped_leads 9 a.ends reply.stop _ going (begins_leads setup (record a { lines = reply.lines }) 6))
+    (begins_leads setup a 7)
 
 -- No reply of memory or of the devices tells the stop.
 
@@ -113,9 +152,13 @@ flat_unstopped setup made h (acc.Amo does address width value) = refl
 flat_unstopped setup made h (acc.Sc address width value) = refl
 flat_unstopped setup made h other = refl
 
+device_unstopped : (made : List Done) (access : Access) → (device_reply made access).stop ≡ false
+device_unstopped made acc.Time = refl
+device_unstopped made other = refl
+
 unstopped : (setup : Setup) (u : Machine) (h : ℕ) (access : Access) → (reply_to setup u h access).stop ≡ false
-unstopped setup u h access = elim (is_ram_access access) as (λ b. (if b then flat setup.image u.ram h access else reply_with 0).stop ≡ false)
-    [ true ↦ flat_unstopped setup u.ram h access | false ↦ refl ]
+unstopped setup u h access = elim (is_ram_access access) as (λ b. (if b then flat setup.image u.ram h access else device_reply u.devices access).stop ≡ false)
+    [ true ↦ flat_unstopped setup u.ram h access | false ↦ device_unstopped u.devices access ]
 
 -- How many of the events are a hart's.
 

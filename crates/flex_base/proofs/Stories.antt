@@ -3,10 +3,8 @@ use Rattle.std.proofs.Common.{◌≡◌, ◌≢◌, true, false, if◌then◌els
 use Rattle.std.proofs.lemmas.Bool.{ne_eqb}
 use Rattle.flex_base.specs.Setup.{Setup}
 use Rattle.flex_base.specs.State.{State}
-use Rattle.flex_base.specs.Place.{in_ram}
-use Rattle.flex_base.specs.Causes.{instruction_access_fault}
 use Rattle.flex_base.specs.Decoding.{decoded}
-use Rattle.flex_base.specs.Story.{Want, Asks, Ends, IsOver, IsLater, Story, Says, Closes, StaysOver, ComesLater, story, pulses, after_pulse, fetches, works, traps, is_tick, goes, want, ask, after_one}
+use Rattle.flex_base.specs.Story.{Want, Asks, Ends, IsOver, IsLater, Story, Says, Closes, StaysOver, ComesLater, story, pulses, after_pulse, begins, works, is_tick, goes, want, ask, after_one}
 use Rattle.flex_base.specs.declared.access.Access.TheVariants as acc
 use Rattle.flex_base.specs.declared.access.Reply.{Reply}
 use Rattle.flex_base.specs.declared.event.EndPart.{EndPart}
@@ -32,7 +30,7 @@ abbrev pub retires : Story
 retires = Says acc.Retire (λ reply. StaysOver)
 
 abbrev pub goes_on : Setup → State → Story
-goes_on setup a = Says (acc.Fetch a.pc) (λ reply. works setup a (decoded reply.value))
+goes_on setup a = Says (acc.Fetch a.pc) (λ reply. works setup a reply.value (decoded reply.value))
 
 pub story_spent : (setup : Setup) (a : State) → a.ends ≡ setup.budget → story setup a ≡ retires
 story_spent setup a spent = ap (λ b. if b then retires else pulses setup a) (eq-eqb a.ends setup.budget spent)
@@ -41,33 +39,10 @@ pub story_unspent : (setup : Setup) (a : State) → a.ends ≢ setup.budget → 
 story_unspent setup a unspent = ap (λ b. if b then retires else pulses setup a) (ne_eqb a.ends setup.budget unspent)
 
 pub story_due : (setup : Setup) (a : State) → a.ends ≢ setup.budget → a.due ≡ true → story setup a ≡ Says (acc.Pulse (is_tick a)) (after_pulse setup a)
-story_due setup a unspent due = story_unspent setup a unspent ∙ ap (λ b. if b then Says (acc.Pulse (is_tick a)) (after_pulse setup a) else fetches setup a) due
+story_due setup a unspent due = story_unspent setup a unspent ∙ ap (λ b. if b then Says (acc.Pulse (is_tick a)) (after_pulse setup a) else begins setup a) due
 
-pub story_undue : (setup : Setup) (a : State) → a.ends ≢ setup.budget → a.due ≡ false → story setup a ≡ fetches setup a
-story_undue setup a unspent undue = story_unspent setup a unspent ∙ ap (λ b. if b then Says (acc.Pulse (is_tick a)) (after_pulse setup a) else fetches setup a) undue
-
-pub story_fetches : (setup : Setup) (a : State) → a.ends ≢ setup.budget → a.due ≡ false → in_ram setup.ram a.pc 4 ≡ true → story setup a ≡ goes_on setup a
-story_fetches setup a unspent undue within = story_undue setup a unspent undue ∙ ap (λ b. if b then goes_on setup a else traps a instruction_access_fault a.pc) within
-
-pub story_outside : (setup : Setup) (a : State) → a.ends ≢ setup.budget → a.due ≡ false → in_ram setup.ram a.pc 4 ≡ false → story setup a ≡ traps a instruction_access_fault a.pc
-story_outside setup a unspent undue outside = story_undue setup a unspent undue ∙ ap (λ b. if b then goes_on setup a else traps a instruction_access_fault a.pc) outside
-
--- At its beginning an instruction is never at its end, nor the hart over.
-
-abbrev pub IsBeginning : Want → Type 0
-IsBeginning (Asks access) = Unit {0}
-IsBeginning (Ends part after) = ⊥
-IsBeginning IsOver = ⊥
-IsBeginning IsLater = Unit {0}
-
-pub fetches_begin : (setup : Setup) (a : State) → IsBeginning (want (fetches setup a))
-fetches_begin setup a = elim (in_ram setup.ram a.pc 4) as (λ b. IsBeginning (want (if b then goes_on setup a else traps a instruction_access_fault a.pc))) [ true ↦ tt | false ↦ tt ]
-
-pulses_begin : (setup : Setup) (a : State) → IsBeginning (want (pulses setup a))
-pulses_begin setup a = elim a.due as (λ b. IsBeginning (want (if b then Says (acc.Pulse (is_tick a)) (after_pulse setup a) else fetches setup a))) [ true ↦ tt | false ↦ fetches_begin setup a ]
-
-pub story_begins : (setup : Setup) (a : State) → IsBeginning (want (story setup a))
-story_begins setup a = elim (a.ends == setup.budget) as (λ b. IsBeginning (want (if b then retires else pulses setup a))) [ true ↦ tt | false ↦ pulses_begin setup a ]
+pub story_undue : (setup : Setup) (a : State) → a.ends ≢ setup.budget → a.due ≡ false → story setup a ≡ begins setup a
+story_undue setup a unspent undue = story_unspent setup a unspent ∙ ap (λ b. if b then Says (acc.Pulse (is_tick a)) (after_pulse setup a) else begins setup a) undue
 
 -- a hart that has spent its budget comes to no end
 spent_never_ends : (replies : List Reply) (part : EndPart) (after : State) → want (goes retires replies) ≡ Ends part after → ⊥
