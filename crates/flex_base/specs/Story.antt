@@ -135,12 +135,16 @@ abbrev pub is_machine : Mode → Bool
 is_machine mode.M = true
 is_machine lower = false
 
--- a CSR instruction writes this value, and gives the old one to its register; translation comes later
+-- a CSR instruction ends that writes this value, and gives the old one to its register
+abbrev pub closes_csr : State → ℕ → ℕ → ℕ → ℕ → Story
+closes_csr a number rd old value = finishes a class.Csr
+    (record a { pc = wrap (a.pc + 4); x = set_reg a.x rd old; csrs = count_but number (csrs_with a number value) })
+    rd (told_of rd old) (makes_due number)
+
+-- translation comes later
 abbrev pub puts_csr : State → ℕ → ℕ → ℕ → ℕ → Story
 puts_csr a number rd old value =
-    if turns_translation_on number value then ComesLater else finishes a class.Csr
-        (record a { pc = wrap (a.pc + 4); x = set_reg a.x rd old; csrs = count_but number (csrs_with a number value) })
-        rd (told_of rd old) (makes_due number)
+    if turns_translation_on number value then ComesLater else closes_csr a number rd old value
 
 -- a CSR instruction has read the old value, or doesn't read
 abbrev pub updates_csr : State → CsrOp → ℕ → ℕ → ℕ → ℕ → Story
@@ -154,12 +158,19 @@ after_csr_pulse a does rd rs1 number reply =
     if reply.stop then StaysOver
     else updates_csr (record a { lines = reply.lines }) does rd rs1 number (csr_value a number reply.lines 0)
 
--- what a CSR instruction reads: pending interrupts by a pulse, the time by an access of its own, all else at once
+-- pending interrupts are read by a pulse, and the time by an access of its own
+abbrev pub asks_pending : State → CsrOp → ℕ → ℕ → ℕ → Story
+asks_pending a does rd rs1 number = Says (acc.Pulse false) (after_csr_pulse a does rd rs1 number)
+
+abbrev pub asks_time : State → CsrOp → ℕ → ℕ → ℕ → Story
+asks_time a does rd rs1 number =
+    Says acc.Time (λ reply. updates_csr a does rd rs1 number (csr_value a number 0 reply.value))
+
+-- what a CSR instruction reads; all else is read at once
 abbrev pub asks_csr : State → CsrOp → ℕ → ℕ → ℕ → Story
 asks_csr a does rd rs1 number =
-    if is_pending_csr number then Says (acc.Pulse false) (after_csr_pulse a does rd rs1 number)
-    else (if number == CSR_TIME
-    then Says acc.Time (λ reply. updates_csr a does rd rs1 number (csr_value a number 0 reply.value))
+    if is_pending_csr number then asks_pending a does rd rs1 number
+    else (if number == CSR_TIME then asks_time a does rd rs1 number
     else updates_csr a does rd rs1 number (csr_value a number 0 0))
 
 -- a CSR instruction; one that may not do all that it does is illegal, and does nothing

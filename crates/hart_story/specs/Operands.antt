@@ -7,7 +7,7 @@ use Rattle.flex_base.specs.declared.operation.Op.TheVariants as op
 abbrev pub IsRegister : ℕ → Type 0
 IsRegister r = r < 32
 
--- the operands of an operation whose work is built
+-- the operands of an operation
 abbrev pub HasOperands : Op → Type 0
 HasOperands (op.Lui rd imm) = IsRegister rd
 HasOperands (op.Auipc rd imm) = IsRegister rd
@@ -22,4 +22,5 @@ HasOperands (op.Muldiv does rd rs1 rs2) = IsRegister rd × IsRegister rs1 × IsR
 HasOperands (op.Lr width rd rs1 aq rl) = IsAtomicWidth width × IsRegister rd × IsRegister rs1
 HasOperands (op.Sc width rd rs1 rs2 aq rl) = IsAtomicWidth width × IsRegister rd × IsRegister rs1 × IsRegister rs2
 HasOperands (op.Amo does width rd rs1 rs2 aq rl) = IsAtomicWidth width × IsRegister rd × IsRegister rs1 × IsRegister rs2
+HasOperands (op.Csr does rd rs1 number) = IsRegister rd × IsRegister rs1
 HasOperands other = Unit {0}

@@ -1,17 +1,20 @@
 -- What an instruction comes to.
-use Rattle.std.specs.Prelude.{◌≡◌, ℕ, ◌<◌, Bool, true, Option, Some}
+use Rattle.std.specs.Prelude.{◌≡◌, ℕ, ◌<◌, Bool, true, false, Option, Some}
 use Rattle.flex_base.specs.Word.{is_multiple}
 use Rattle.flex_base.specs.Limits.{mebibyte}
 use Rattle.flex_base.specs.Setup.{Setup}
 use Rattle.flex_base.specs.State.{State, IsReservation}
 use Rattle.flex_base.specs.FlatMemory.{reservation_set}
-use Rattle.flex_base.specs.Story.{Story, Says, ComesLater, ends, computes, passes, concludes, extended}
+use Rattle.flex_base.specs.Csrs.{IsCause}
+use Rattle.flex_base.specs.Traps.{mret, sret}
+use Rattle.flex_base.specs.Story.{Story, Says, ComesLater, ends, traps, returns, computes, passes, concludes, asks_pending, asks_time, closes_csr, extended}
 use Rattle.flex_base.specs.Forms.{IsPlaced}
 use Rattle.flex_base.specs.declared.access.Access.{Access}
 use Rattle.flex_base.specs.declared.access.Access.TheVariants as acc
 use Rattle.flex_base.specs.declared.class.Class.TheVariants as class
 use Rattle.flex_base.specs.declared.settings.Layout.{Layout}
 use Rattle.hart_story.specs.Need.{IsReservedFor}
+use Rattle.hart_story.specs.Operands.{IsRegister}
 use Rattle.hart_story.specs.StandsFor.{Shows}
 use Rattle.hart_story.specs.declared.hart.Hart.{Hart}
 use Rattle.hart_story.specs.declared.outcome.End.{End}
@@ -43,6 +46,12 @@ closing a other signed rd value = ComesLater
 abbrev pub outcome_of : State → Outcome → Story
 outcome_of a (outcome.End end) = end_of a end
 outcome_of a (outcome.Ask access signed rd) = Says access (λ reply. closing a access signed rd reply.value)
+outcome_of a (outcome.Trap cause tval) = traps a cause tval
+outcome_of a (outcome.AskPending does rd rs1 number) = asks_pending a does rd rs1 number
+outcome_of a (outcome.AskTime does rd rs1 number) = asks_time a does rd rs1 number
+outcome_of a (outcome.WriteCsr number rd old value) = closes_csr a number rd old value
+outcome_of a outcome.Mret = returns a (mret a.csrs)
+outcome_of a outcome.Sret = returns a (sret a.csrs)
 outcome_of a outcome.Unbuilt = ComesLater
 
 -- in each run of this layout, and each state that the hart shows, this story is what the instruction comes to
@@ -85,7 +94,21 @@ pub record IsSoundAsk (layout : Layout) (hart : Hart) (access : Access) (rd : �
   pub register : rd < 32
   pub reserved : IsReservedFor hart.regs.reservation access
 
+-- what an instruction comes to is sound: a trap has a cause that a register can hold
 abbrev pub IsSoundOutcome : Layout → Hart → Outcome → Type 0
 IsSoundOutcome layout hart (outcome.End end) = IsSoundEnd layout hart end
 IsSoundOutcome layout hart (outcome.Ask access signed rd) = IsSoundAsk layout hart access rd
-IsSoundOutcome layout hart outcome.Unbuilt = Unit {0}
+IsSoundOutcome layout hart (outcome.Trap cause tval) = IsCause cause
+IsSoundOutcome layout hart (outcome.AskPending does rd rs1 number) = IsRegister rd × IsRegister rs1
+IsSoundOutcome layout hart (outcome.AskTime does rd rs1 number) = IsRegister rd × IsRegister rs1
+IsSoundOutcome layout hart (outcome.WriteCsr number rd old value) = IsRegister rd
+IsSoundOutcome layout hart other = Unit {0}
+
+-- the outcome is an end
+abbrev pub is_end : Outcome → Bool
+is_end (outcome.End end) = true
+is_end (outcome.Trap cause tval) = true
+is_end (outcome.WriteCsr number rd old value) = true
+is_end outcome.Mret = true
+is_end outcome.Sret = true
+is_end other = false

@@ -1,5 +1,5 @@
 -- How far a hart in the code has come in the story of its instruction.
-use Rattle.std.specs.Prelude.{◌≡◌, ℕ, Bool, true, false, Option, fold}
+use Rattle.std.specs.Prelude.{◌≡◌, ℕ, ◌<◌, Bool, true, false, Option, fold}
 use Rattle.flex_base.specs.Setup.{Setup}
 use Rattle.flex_base.specs.State.{State, IsFit}
 use Rattle.flex_base.specs.Story.{Want, Asks, Ends, Story, Closes, StaysOver, story, goes, ask, fetches}
@@ -36,6 +36,8 @@ abbrev pub left : Progress → ℕ
 left progress.Begun = 3
 left (progress.Pulsed lines) = 2
 left (progress.Working lines (outcome.Ask access signed rd)) = 1
+left (progress.Working lines (outcome.AskPending does rd rs1 number)) = 1
+left (progress.Working lines (outcome.AskTime does rd rs1 number)) = 1
 left (progress.Working lines other) = 0
 left progress.Over = 0
 
@@ -48,7 +50,7 @@ IsSoundProgress layout hart other = Unit {0}
 pub record IsIn (setup : Setup) (i : Instruction) (hart : Hart) (progress : Progress) (layout : Layout) (budget : ℕ) : Type 0 where
   pub of : IsOf setup layout budget
   pub stands : StandsFor hart i.state
-  pub fit : IsFit setup.ram setup.budget i.state
+  pub fit : IsFit setup.harts setup.ram setup.budget i.state
   pub reached : Reached setup i progress
   pub sound : IsSoundProgress layout hart progress
 
@@ -68,14 +70,23 @@ IsEnding setup i part after = want_in setup i ≡ Ends part after
 abbrev pub own_in : Setup → Instruction → Option ℕ
 own_in setup i = fold reserving i.state.reservation (accesses_in (story setup i.state) i.replies)
 
--- the story closes with this end, and the hart stands for the state after it
-abbrev pub CommitsTo : Hart → EndPart → Story → Type 0
-CommitsTo hart part (Closes made after) = (part ≡ made) × StandsFor hart after
-CommitsTo hart part other = ⊥
+-- the story closes with this end, and the hart stands for the state after it, which is fit
+abbrev pub CommitsTo : Setup → Hart → EndPart → Story → Type 0
+CommitsTo setup hart part (Closes made after) =
+    (part ≡ made) × StandsFor hart after × IsFit setup.harts setup.ram setup.budget after
+CommitsTo setup hart part other = ⊥
+
+-- in each run of this layout and budget in which the hart stands for a fit state that has ends left, this story of it, with
+-- these lines, closes so
+abbrev pub Commits : Layout → ℕ → Hart → ℕ → (State → Story) → EndPart → Hart → Type 0
+Commits layout budget before lines story part hart =
+    (setup : Setup) (a : State) → IsOf setup layout budget → StandsFor before a
+    → IsFit setup.harts setup.ram setup.budget a → a.ends < setup.budget
+    → CommitsTo setup hart part (story (record a { lines = lines }))
 
 -- the want is this end, and the hart stands for the state after it, which is fit
 pub record EndsWith (setup : Setup) (want : Want) (part : EndPart) (hart : Hart) : Type 0 where
   pub after : State
   pub ends : want ≡ Ends part after
   pub stands : StandsFor hart after
-  pub fit : IsFit setup.ram setup.budget after
+  pub fit : IsFit setup.harts setup.ram setup.budget after

@@ -1,4 +1,5 @@
 -- What a hart in the code stands for.
+use Rattle.std.specs.Prelude.{◌≡◌}
 use Rattle.flex_base.specs.State.{State}
 use Rattle.hart_state.specs.AreRegsOf.{AreRegsOf}
 use Rattle.hart_story.specs.declared.hart.Hart.{Hart}
@@ -6,6 +7,7 @@ use Rattle.hart_story.specs.declared.hart.Hart.{Hart}
 -- the hart is in this state
 pub record StandsFor (hart : Hart) (a : State) : Type 0 where
   pub regs : AreRegsOf a hart.regs
+  pub csrs : hart.csrs ≡ a.csrs
 
 -- the hart is in this state but for the interrupt lines, which a pulse in the middle of the instruction told
 abbrev pub Shows : Hart → State → Type 0

@@ -5,9 +5,12 @@ ghost use Rattle.flex_base.specs.declared.settings.Layout.{Layout};
 ghost use Rattle.hart_story.specs.declared.hart.Hart.{Hart};
 ghost use Rattle.hart_story.specs.Outcome.{ComesTo, EndsAs, IsSoundEnd, IsSoundOutcome};
 
+use crate::causes::{
+    LOAD_ACCESS_FAULT, LOAD_ADDRESS_MISALIGNED, STORE_ACCESS_FAULT, STORE_ADDRESS_MISALIGNED,
+};
 use crate::ends::end_reserving;
 use crate::hart::Hart;
-use crate::memory::where_in_ram;
+use crate::memory::reach_ram;
 use crate::outcome::{End, Outcome};
 use crate::width::cut;
 use flex_base::{Access, AmoOp, Class, Layout, is_reserved, reservation_set};
@@ -24,7 +27,14 @@ pub(crate) fn load_reserved(layout: &Layout, width: u8, rd: u8, address: u64) ->
         signed: true,
         rd,
     };
-    where_in_ram(layout, address, width, ask)
+    reach_ram(
+        layout,
+        address,
+        width,
+        LOAD_ADDRESS_MISALIGNED,
+        LOAD_ACCESS_FAULT,
+        ask,
+    )
 }
 
 // Where the hart has no reservation of these 8 bytes a store-conditional fails with no access.
@@ -54,7 +64,14 @@ pub(crate) fn store_conditional(
     } else {
         Outcome::End(end_conditional(hart, rd, 1))
     };
-    where_in_ram(layout, address, width, outcome)
+    reach_ram(
+        layout,
+        address,
+        width,
+        STORE_ADDRESS_MISALIGNED,
+        STORE_ACCESS_FAULT,
+        outcome,
+    )
 }
 
 // A store-conditional ends the hart's reservation, whether it stored or not (Volume I,
@@ -91,5 +108,12 @@ pub(crate) fn modify(
         signed: true,
         rd,
     };
-    where_in_ram(layout, address, width, ask)
+    reach_ram(
+        layout,
+        address,
+        width,
+        STORE_ADDRESS_MISALIGNED,
+        STORE_ACCESS_FAULT,
+        ask,
+    )
 }

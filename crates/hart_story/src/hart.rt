@@ -2,6 +2,7 @@ ghost use Rattle.std.specs.Prelude.{◌≡◌, ◌<◌};
 ghost use Rattle.flex_base.specs.State.{State, reg};
 ghost use Rattle.hart_story.specs.StandsFor.{Shows};
 
+use csr_traps::Csrs;
 use flex_base::HartId;
 use hart_state::Regs;
 
@@ -9,6 +10,7 @@ use hart_state::Regs;
 #[derive(Clone, Copy, Debug, PartialEq, Eq)]
 pub struct Hart {
     pub regs: Regs,
+    pub csrs: Csrs,
 }
 
 impl Hart {
@@ -16,12 +18,13 @@ impl Hart {
     ghost use Rattle.flex_base.specs.State.{start};
     ghost use Rattle.hart_story.specs.StandsFor.{StandsFor};
 
-    /// The start of a hart: at the entry, with its number in `x10`.
+    /// The start of a hart: at the entry, with its number in `x10` and in `mhartid`.
     pub fn start(hart: HartId, entry: u64) -> Hart
         ensures { StandsFor result (start hart.0 entry) }
     {
         Hart {
             regs: Regs::start(hart, entry),
+            csrs: Csrs::new(hart),
         }
     }
 }

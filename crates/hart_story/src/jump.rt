@@ -3,20 +3,24 @@ ghost use Rattle.flex_base.specs.Story.{jumps, branches, is_taken, even};
 ghost use Rattle.flex_base.specs.declared.settings.Layout.{Layout};
 ghost use Rattle.hart_story.specs.Outcome.{ComesAs, IsSoundOutcome};
 
+use crate::causes::INSTRUCTION_ADDRESS_MISALIGNED;
 use crate::ends::end_without;
 use crate::hart::Hart;
 use crate::outcome::{End, Outcome};
 use flex_base::{BranchOp, Class};
 
-// A jump, which links the next instruction. To a misaligned address it is an exception, and those
-// aren't built yet.
+// A jump, which links the next instruction. To a misaligned address it is an exception of the jump
+// itself.
 pub(crate) fn jump(hart: &Hart, target: u64, rd: u8) -> Outcome
     requires { rd < 32 }
     ensures works { ComesAs hart.now (λ a. jumps a target rd) result }
     ensures sound { (layout : Layout) → IsSoundOutcome layout hart.now result }
 {
     if target % 4 != 0 {
-        return Outcome::Unbuilt;
+        return Outcome::Trap {
+            cause: INSTRUCTION_ADDRESS_MISALIGNED,
+            tval: target,
+        };
     }
     Outcome::End(End {
         class: Class::Jump,

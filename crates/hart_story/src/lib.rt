@@ -3,6 +3,9 @@
 #![tactic(auto)]
 
 mod atomic;
+mod causes;
+mod csr;
+mod ending;
 mod ends;
 mod hart;
 mod jump;
@@ -11,6 +14,7 @@ mod outcome;
 mod progress;
 mod reply;
 mod story;
+mod system;
 mod width;
 mod work;
 

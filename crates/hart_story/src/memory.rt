@@ -1,15 +1,17 @@
-ghost use Rattle.std.specs.Prelude.{◌≡◌, ℕ, ◌<◌, ◌&&◌, if◌then◌else◌};
+ghost use Rattle.std.specs.Prelude.{◌≡◌, ℕ, ◌<◌};
 ghost use Rattle.flex_base.specs.Setup.{Setup};
 ghost use Rattle.flex_base.specs.State.{State};
-ghost use Rattle.flex_base.specs.Forms.{IsWidth};
-ghost use Rattle.flex_base.specs.Word.{is_multiple};
+ghost use Rattle.flex_base.specs.Csrs.{IsCause};
 ghost use Rattle.flex_base.specs.Place.{in_ram};
-ghost use Rattle.flex_base.specs.Story.{loads, reaches, stores};
+ghost use Rattle.flex_base.specs.Forms.{IsWidth, IsAlignedRam};
+ghost use Rattle.flex_base.specs.Story.{loads, stores, reaches, reaches_ram};
 ghost use Rattle.flex_base.specs.declared.settings.Layout.{Layout};
 ghost use Rattle.hart_story.specs.declared.hart.Hart.{Hart};
-ghost use Rattle.hart_story.specs.declared.outcome.Outcome.TheVariants as outcome;
 ghost use Rattle.hart_story.specs.Outcome.{IsOf, outcome_of, ComesTo, IsSoundOutcome};
 
+use crate::causes::{
+    LOAD_ACCESS_FAULT, LOAD_ADDRESS_MISALIGNED, STORE_ACCESS_FAULT, STORE_ADDRESS_MISALIGNED,
+};
 use crate::outcome::Outcome;
 use crate::width::cut;
 use flex_base::{Access, Layout, Place};
@@ -25,7 +27,14 @@ pub(crate) fn load(layout: &Layout, width: u8, signed: bool, rd: u8, address: u6
         signed,
         rd,
     };
-    where_in_ram(layout, address, width, ask)
+    reach(
+        layout,
+        address,
+        width,
+        LOAD_ADDRESS_MISALIGNED,
+        LOAD_ACCESS_FAULT,
+        ask,
+    )
 }
 
 pub(crate) fn store(layout: &Layout, width: u8, address: u64, value: u64) -> Outcome
@@ -42,27 +51,83 @@ pub(crate) fn store(layout: &Layout, width: u8, address: u64, value: u64) -> Out
         signed: false,
         rd: 0,
     };
-    where_in_ram(layout, address, width, ask)
+    reach(
+        layout,
+        address,
+        width,
+        STORE_ADDRESS_MISALIGNED,
+        STORE_ACCESS_FAULT,
+        ask,
+    )
 }
 
-// What an instruction comes to whose bytes lie aligned in RAM. Elsewhere nothing is built yet.
-pub(crate) fn where_in_ram(layout: &Layout, address: u64, width: u8, made: Outcome) -> Outcome
-    requires { IsWidth width }
-    ensures outcome { result ≡ (if is_multiple address width && in_ram layout.now.ram address width
-        then made else outcome.Unbuilt) }
-    ensures reaches { (setup : Setup) (budget : ℕ) (a : State) (misaligned fault : ℕ) → IsOf setup layout.now budget
+// A load or a store of these bytes. Devices aren't built yet.
+fn reach(
+    layout: &Layout,
+    address: u64,
+    width: u8,
+    misaligned: u64,
+    fault: u64,
+    made: Outcome,
+) -> Outcome
+    requires width { IsWidth width }
+    requires causes { IsCause misaligned × IsCause fault }
+    ensures reaches { (setup : Setup) (budget : ℕ) (a : State) → IsOf setup layout.now budget
         → reaches setup a address width misaligned fault (outcome_of a made) ≡ outcome_of a result }
+    ensures sound { (hart : Hart)
+        → (IsAlignedRam layout.now.ram address width → IsSoundOutcome layout.now hart made)
+        → IsSoundOutcome layout.now hart result }
 {
-    if is_aligned_in_ram(layout, address, width) {
-        made
-    } else {
-        Outcome::Unbuilt
+    if address % width as u64 != 0 {
+        return Outcome::Trap {
+            cause: misaligned,
+            tval: address,
+        };
+    }
+    match layout.place(address, width) {
+        Place::Ram => made,
+        Place::Device => Outcome::Unbuilt,
+        Place::Nowhere => Outcome::Trap {
+            cause: fault,
+            tval: address,
+        },
     }
 }
 
-fn is_aligned_in_ram(layout: &Layout, address: u64, width: u8) -> bool
-    requires { IsWidth width }
-    ensures { result ≡ (is_multiple address width && in_ram layout.now.ram address width) }
+// An atomic instruction of these bytes, which are in RAM or fault.
+pub(crate) fn reach_ram(
+    layout: &Layout,
+    address: u64,
+    width: u8,
+    misaligned: u64,
+    fault: u64,
+    made: Outcome,
+) -> Outcome
+    requires width { IsWidth width }
+    requires causes { IsCause misaligned × IsCause fault }
+    ensures reaches { (setup : Setup) (budget : ℕ) (a : State) → IsOf setup layout.now budget
+        → reaches_ram setup a address width misaligned fault (outcome_of a made) ≡ outcome_of a result }
+    ensures sound { (hart : Hart)
+        → (IsAlignedRam layout.now.ram address width → IsSoundOutcome layout.now hart made)
+        → IsSoundOutcome layout.now hart result }
 {
-    address % width as u64 == 0 && matches!(layout.place(address, width), Place::Ram)
+    if address % width as u64 != 0 {
+        return Outcome::Trap {
+            cause: misaligned,
+            tval: address,
+        };
+    }
+    if !is_in_ram(layout, address, width) {
+        return Outcome::Trap {
+            cause: fault,
+            tval: address,
+        };
+    }
+    made
+}
+
+fn is_in_ram(layout: &Layout, address: u64, width: u8) -> bool
+    ensures { result ≡ in_ram layout.now.ram address width }
+{
+    matches!(layout.place(address, width), Place::Ram)
 }

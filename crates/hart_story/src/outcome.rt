@@ -1,4 +1,4 @@
-use flex_base::{Access, Class};
+use flex_base::{Access, Class, CsrOp};
 
 /// What an instruction comes to, as far as the replies tell it.
 #[derive(Clone, Copy, Debug, PartialEq, Eq)]
@@ -12,6 +12,34 @@ pub enum Outcome {
         signed: bool,
         rd: u8,
     },
+    /// A trap, which is its end.
+    Trap { cause: u64, tval: u64 },
+    /// The pulse by which a CSR instruction reads the pending interrupts. `rs1` is a register or an
+    /// immediate.
+    AskPending {
+        op: CsrOp,
+        rd: u8,
+        rs1: u8,
+        number: u16,
+    },
+    /// The access by which a CSR instruction reads the time.
+    AskTime {
+        op: CsrOp,
+        rd: u8,
+        rs1: u8,
+        number: u16,
+    },
+    /// The end of a CSR instruction that writes this value to a register and the old one to `rd`.
+    WriteCsr {
+        number: u16,
+        rd: u8,
+        old: u64,
+        value: u64,
+    },
+    /// The end of a return from a trap in M.
+    Mret,
+    /// The end of a return from a trap in S.
+    Sret,
     /// What isn't built yet.
     Unbuilt,
 }

@@ -5,11 +5,13 @@ ghost use Rattle.hart_story.specs.Operands.{HasOperands};
 ghost use Rattle.hart_story.specs.Outcome.{ComesTo, IsSoundOutcome};
 
 use crate::atomic::{load_reserved, modify, store_conditional};
+use crate::csr::use_csr;
 use crate::ends::{end_with, end_without};
 use crate::hart::{Hart, read};
 use crate::jump::{branch, even, jump};
 use crate::memory::{load, store};
 use crate::outcome::Outcome;
+use crate::system::{ebreak, ecall, illegal, mret, sfence_vma, sret, wfi};
 use flex_base::{Class, Layout, Op};
 use rv_alu::{alu, muldiv};
 use rv_decode::decode;
@@ -17,7 +19,7 @@ use rv_decode::decode;
 // What the word does, an operation a line.
 #[rattlefmt::skip]
 pub(crate) fn work(hart: &Hart, layout: &Layout, word: u32) -> Outcome
-    ensures works { ComesTo layout.now hart.now (λ setup a. works setup a (decoded word)) result }
+    ensures works { ComesTo layout.now hart.now (λ setup a. works setup a word (decoded word)) result }
     ensures sound { IsSoundOutcome layout.now hart.now result }
 {
     let pc = hart.regs.pc;
@@ -36,7 +38,14 @@ pub(crate) fn work(hart: &Hart, layout: &Layout, word: u32) -> Outcome
         Op::Sc { width, rd, rs1, rs2, .. } => store_conditional(hart, layout, width, rd, read(hart, rs1), read(hart, rs2)),
         Op::Amo { op, width, rd, rs1, rs2, .. } => modify(layout, op, width, rd, read(hart, rs1), read(hart, rs2)),
         Op::Fence { .. } | Op::FenceI { .. } => Outcome::End(end_without(hart, Class::Fence)),
-        _ => Outcome::Unbuilt,
+        Op::Csr { op, rd, rs1, number } => use_csr(hart, word, op, rd, rs1, number),
+        Op::Ecall => ecall(hart),
+        Op::Ebreak => ebreak(),
+        Op::Mret => mret(hart, word),
+        Op::Sret => sret(hart, word),
+        Op::Wfi => wfi(hart, word),
+        Op::SfenceVma { .. } => sfence_vma(hart, word),
+        Op::Illegal(whole) => illegal(whole),
     }
 }
 

@@ -1,0 +1,118 @@
+// Privileged instructions (Volume II, "Machine-Mode Privileged Instructions", "Supervisor
+// Instructions").
+ghost use Rattle.std.specs.Prelude.{◌≡◌, ◌<◌, ℕ};
+ghost use Rattle.flex_base.specs.State.{State};
+ghost use Rattle.flex_base.specs.Csrs.{TSR, TW, TVM, IsCause};
+ghost use Rattle.flex_base.specs.Causes.{ecall_from, breakpoint};
+ghost use Rattle.flex_base.specs.Traps.{mret, sret};
+ghost use Rattle.flex_base.specs.Story.{traps, traps_illegal, returns, supervises, is_machine, ComesLater};
+ghost use Rattle.flex_base.specs.declared.settings.Layout.{Layout};
+ghost use Rattle.hart_story.specs.declared.hart.Hart.{Hart};
+ghost use Rattle.hart_story.specs.StandsFor.{Shows};
+ghost use Rattle.hart_story.specs.Outcome.{ComesAs, IsSoundOutcome};
+
+use crate::causes::{BREAKPOINT, ECALL_FROM_M, ECALL_FROM_S, ECALL_FROM_U, ILLEGAL_INSTRUCTION};
+use crate::hart::Hart;
+use crate::outcome::Outcome;
+use flex_base::Mode;
+
+// Bits of mstatus that keep S from an instruction (Volume II, "Virtualization Support in mstatus
+// Register").
+const TVM: u32 = 20;
+
+const TW: u32 = 21;
+
+const TSR: u32 = 22;
+
+pub(crate) fn illegal(word: u32) -> Outcome
+    ensures works { (hart : Hart) → ComesAs hart (λ a. traps_illegal a word) result }
+    ensures sound { (layout : Layout) (hart : Hart) → IsSoundOutcome layout hart result }
+{
+    Outcome::Trap {
+        cause: ILLEGAL_INSTRUCTION,
+        tval: word as u64,
+    }
+}
+
+pub(crate) fn ecall(hart: &Hart) -> Outcome
+    ensures works { ComesAs hart.now (λ a. traps a (ecall_from a.mode) 0) result }
+    ensures sound { (layout : Layout) → IsSoundOutcome layout hart.now result }
+{
+    let cause = match hart.regs.mode {
+        Mode::U => ECALL_FROM_U,
+        Mode::S => ECALL_FROM_S,
+        Mode::M => ECALL_FROM_M,
+    };
+    Outcome::Trap { cause, tval: 0 }
+}
+
+pub(crate) fn ebreak() -> Outcome
+    ensures works { (hart : Hart) → ComesAs hart (λ a. traps a breakpoint 0) result }
+    ensures sound { (layout : Layout) (hart : Hart) → IsSoundOutcome layout hart result }
+{
+    Outcome::Trap {
+        cause: BREAKPOINT,
+        tval: 0,
+    }
+}
+
+pub(crate) fn mret(hart: &Hart, word: u32) -> Outcome
+    ensures works { ComesAs hart.now
+        (λ a. if is_machine a.mode then returns a (mret a.csrs) else traps_illegal a word) result }
+    ensures sound { (layout : Layout) → IsSoundOutcome layout hart.now result }
+{
+    match hart.regs.mode {
+        Mode::M => Outcome::Mret,
+        _ => illegal(word),
+    }
+}
+
+pub(crate) fn sret(hart: &Hart, word: u32) -> Outcome
+    ensures works { ComesAs hart.now
+        (λ a. if supervises TSR a.csrs a.mode then returns a (sret a.csrs) else traps_illegal a word) result }
+    ensures sound { (layout : Layout) → IsSoundOutcome layout hart.now result }
+{
+    if supervises(hart, TSR) {
+        Outcome::Sret
+    } else {
+        illegal(word)
+    }
+}
+
+// Waiting isn't built yet.
+pub(crate) fn wfi(hart: &Hart, word: u32) -> Outcome
+    ensures works { ComesAs hart.now
+        (λ a. if supervises TW a.csrs a.mode then ComesLater else traps_illegal a word) result }
+    ensures sound { (layout : Layout) → IsSoundOutcome layout hart.now result }
+{
+    if supervises(hart, TW) {
+        Outcome::Unbuilt
+    } else {
+        illegal(word)
+    }
+}
+
+// Translation isn't built yet.
+pub(crate) fn sfence_vma(hart: &Hart, word: u32) -> Outcome
+    ensures works { ComesAs hart.now
+        (λ a. if supervises TVM a.csrs a.mode then ComesLater else traps_illegal a word) result }
+    ensures sound { (layout : Layout) → IsSoundOutcome layout hart.now result }
+{
+    if supervises(hart, TVM) {
+        Outcome::Unbuilt
+    } else {
+        illegal(word)
+    }
+}
+
+// Whether the hart may make an instruction of supervisors that this bit of mstatus keeps from S.
+fn supervises(hart: &Hart, bit: u32) -> bool
+    requires { bit < 64 }
+    ensures { (a : State) → Shows hart.now a → result ≡ supervises bit a.csrs a.mode }
+{
+    match hart.regs.mode {
+        Mode::M => true,
+        Mode::S => hart.csrs.mstatus() >> bit & 1 == 0,
+        Mode::U => false,
+    }
+}
