@@ -1,5 +1,5 @@
 -- Fit stores stay fit: at the start, and after an end, a trap or a return.
-use Rattle.std.proofs.Common.{ℕ, ◌+◌, ◌*◌, ◌/◌, ◌%◌, ◌^◌, ◌<◌, ◌≤◌, ◌≡◌, ◌≢◌, inl, inr, Bool, true, false, ◌&&◌, ◌==◌, if◌then◌else◌, List, [], ◌∷◌, refl, ◌∙◌, arith, subst, length, slice_index, get_or-set_other, replicate}
+use Rattle.std.proofs.Common.{ℕ, ◌+◌, ◌*◌, ◌/◌, ◌%◌, ◌^◌, ◌<◌, ◌≤◌, ◌≡◌, ◌≢◌, inl, inr, Bool, true, false, ◌&&◌, ◌==◌, if◌then◌else◌, List, [], ◌∷◌, refl, ap, ◌∙◌, arith, subst, length, slice_index, get_or-set_other, replicate}
 use Rattle.std.proofs.Math.Path.{sym}
 use Rattle.std.proofs.Math.ListN.{length-set}
 use Rattle.std.proofs.lemmas.List.{get_or_append_left, get_or-replicate}
@@ -11,10 +11,9 @@ use Rattle.std.specs.Prelude.{slice_set}
 use Rattle.flex_base.specs.Word.{field, wrap, is_multiple}
 use Rattle.flex_base.specs.Causes.{is_interrupt, code_of}
 use Rattle.flex_base.specs.Csrs.{AreFit, IsWithin, IsCause, store_bits, start_csrs, is_satp_mode, all_bits, all_but, with_bits, with_store_bits, mode_number, SIE, MIE, SPIE, MPIE, SPP, mstatus, satp, mepc, mcause, mtval, sepc, scause, stval, mcycle, minstret, MPP}
-use Rattle.flex_base.specs.Traps.{with_field, with_bit, with_trap_values, with_mprv_in_m, mode_of, mstatus_after_trap_to_m, mstatus_after_trap_to_s, mstatus_after_mret, mstatus_after_sret, trap_to_m, trap_to_s, goes_to_s, handler, mret, sret, count, with_one_more}
+use Rattle.flex_base.specs.Traps.{with_field, with_bit, with_trap_values, with_mprv_in_m, mode_of, mstatus_after_trap_to_m, mstatus_after_trap_to_s, mstatus_after_mret, mstatus_after_sret, trap_to_m, trap_to_s, goes_to_s, handler, trap, mret, sret, count, with_one_more}
 use Rattle.flex_base.specs.declared.hart.Mode.{Mode}
 use Rattle.flex_base.specs.declared.hart.Mode.TheVariants as mode
-use Rattle.csr_traps.specs.Laws.{StayFit, StayFitAfterTrap, IsReturnAddress}
 use Rattle.csr_traps.proofs.Fields.{bit_small, mpp-with_mpp, mpp-with_sie, mpp-with_mie, mpp-with_spie, mpp-with_mpie, mpp-with_spp, mpp-with_mprv}
 use Rattle.csr_traps.proofs.Bits.{and_all}
 use Rattle.csr_traps.proofs.Within.{with_bits-within, small_within, with_field-within, with_bit-within}
@@ -96,12 +95,12 @@ cycle_fit harts stores fit = one_more_fit harts stores mcycle fit (omega arith) 
 instret_fit : (harts : ℕ) (stores : List ℕ) → AreFit harts stores → AreFit harts (with_one_more minstret stores)
 instret_fit harts stores fit = one_more_fit harts stores minstret fit (omega arith) (λ e. absurd (omega (arith, e))) (λ e. absurd (omega (arith, e))) refl
 
-pub count_fit : (stores : List ℕ) (cycle instret : Bool) → StayFit stores (count stores cycle instret)
-unfolding StayFit
-count_fit stores true true harts fit = instret_fit harts (with_one_more mcycle stores) (cycle_fit harts stores fit)
-count_fit stores true false harts fit = cycle_fit harts stores fit
-count_fit stores false true harts fit = instret_fit harts stores fit
-count_fit stores false false harts fit = fit
+pub count_fit : (harts : ℕ) (stores : List ℕ) (cycle instret : Bool) → AreFit harts stores → AreFit harts (count stores cycle instret)
+unfolding count
+count_fit harts stores true true fit = instret_fit harts (with_one_more mcycle stores) (cycle_fit harts stores fit)
+count_fit harts stores true false fit = cycle_fit harts stores fit
+count_fit harts stores false true fit = instret_fit harts stores fit
+count_fit harts stores false false fit = fit
 
 -- Addresses of instructions.
 
@@ -131,13 +130,13 @@ to_within n small multiple =
     let none : n % 4 ≡ 0 = eqb-true (n % 4) 0 multiple in
     and_high_mask 64 2 (omega arith) n small ∙ omega (arith, none)
 
-pub mret_address : (stores : List ℕ) → IsReturnAddress stores (slice_index stores mepc)
-unfolding IsReturnAddress
-mret_address stores harts fit = from_within (slice_index stores mepc) (fit.within mepc (omega arith))
+pub mret_address : (harts : ℕ) (stores : List ℕ) → AreFit harts stores → is_multiple (mret stores).pc 4 ≡ true
+unfolding mret
+mret_address harts stores fit = from_within (slice_index stores mepc) (fit.within mepc (omega arith))
 
-pub sret_address : (stores : List ℕ) → IsReturnAddress stores (slice_index stores sepc)
-unfolding IsReturnAddress
-sret_address stores harts fit = from_within (slice_index stores sepc) (fit.within sepc (omega arith))
+pub sret_address : (harts : ℕ) (stores : List ℕ) → AreFit harts stores → is_multiple (sret stores).pc 4 ≡ true
+unfolding sret
+sret_address harts stores fit = from_within (slice_index stores sepc) (fit.within sepc (omega arith))
 
 -- Traps and returns.
 
@@ -262,17 +261,28 @@ trap_by stores pc mode cause tval false fits small multiple good harts fit =
     (omega arith, λ e. absurd (omega (arith, e)), λ e. absurd (omega (arith, e)), refl) (to_within pc fits multiple) good small)
     (trap_to_m-status (slice_index stores mstatus) mode (status_of harts stores fit))
 
-pub trap_fit : (stores : List ℕ) (pc : ℕ) (mode : Mode) (cause tval : ℕ) → pc < 2 ^ 64 → tval < 2 ^ 64 → StayFitAfterTrap stores pc mode cause tval
-unfolding StayFitAfterTrap StayFit
-trap_fit stores pc mode cause tval fits small multiple good harts fit =
+pub trap_fit : (harts : ℕ) (stores : List ℕ) (pc : ℕ) (mode : Mode) (cause tval : ℕ) → pc < 2 ^ 64 → tval < 2 ^ 64 →
+    AreFit harts stores → is_multiple pc 4 ≡ true → IsCause cause → AreFit harts (trap stores pc mode cause tval).stores
+unfolding trap
+trap_fit harts stores pc mode cause tval fits small fit multiple good =
     trap_by stores pc mode cause tval (goes_to_s stores mode cause) fits small multiple good harts fit
 
-pub mret_fit : (stores : List ℕ) → StayFit stores (mret stores).stores
-unfolding StayFit
-mret_fit stores harts fit =
+pub mret_fit : (harts : ℕ) (stores : List ℕ) → AreFit harts stores → AreFit harts (mret stores).stores
+unfolding mret
+mret_fit harts stores fit =
     status_fit harts stores (mstatus_after_mret (slice_index stores mstatus)) fit (mret-status (slice_index stores mstatus) (status_of harts stores fit))
 
-pub sret_fit : (stores : List ℕ) → StayFit stores (sret stores).stores
-unfolding StayFit
-sret_fit stores harts fit =
+pub sret_fit : (harts : ℕ) (stores : List ℕ) → AreFit harts stores → AreFit harts (sret stores).stores
+unfolding sret
+sret_fit harts stores fit =
     status_fit harts stores (mstatus_after_sret (slice_index stores mstatus)) fit (sret-status (slice_index stores mstatus) (status_of harts stores fit))
+
+-- What a definition gives, by another name.
+
+pub as_address : (given pc : ℕ) → is_multiple given 4 ≡ true → pc ≡ given → is_multiple pc 4 ≡ true
+as_address given pc multiple is = ap (λ n. is_multiple n 4) is ∙ multiple
+
+pub as_fit : (harts : ℕ) (given after : List ℕ) → AreFit harts given → after ≡ given → AreFit harts after
+as_fit harts given after fit is =
+    let Fit : List ℕ → Type 0 = λ s. AreFit harts s in
+    subst Fit (sym is) fit

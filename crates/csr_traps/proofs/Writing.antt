@@ -5,9 +5,9 @@ use Rattle.std.proofs.lemmas.Bool.{eqb-false}
 use Rattle.std.proofs.lemmas.Nat.{and_le_l, or_comm}
 use Rattle.std.specs.Prelude.{find, option_map, slice_set}
 use Rattle.flex_base.specs.Word.{field}
-use Rattle.flex_base.specs.Csrs.{AreFit, IsWithin, is_satp_mode, all_bits, all_but, with_bits, with_store_bits, Row, rows, row_of, after_write, is_allowed, is_read_only, mideleg, mie, mip, medeleg, mtvec, mcounteren, scounteren, stvec, sscratch, mscratch, mhartid, mstatus, satp, mepc, mcause, mtval, sepc, scause, stval, mcycle, minstret, MPP}
+use Rattle.flex_base.specs.Csrs.{AreFit, IsWithin, is_satp_mode, all_bits, all_but, with_bits, with_store_bits, Row, rows, row_of, after_write, csr_write, is_allowed, is_read_only, mideleg, mie, mip, medeleg, mtvec, mcounteren, scounteren, stvec, sscratch, mscratch, mhartid, mstatus, satp, mepc, mcause, mtval, sepc, scause, stval, mcycle, minstret, MPP}
 use Rattle.flex_base.specs.declared.hart.Mode.{Mode}
-use Rattle.csr_traps.specs.Laws.{OfEach, StayFit, StayFitAfterWrite}
+use Rattle.csr_traps.specs.Laws.{OfEach}
 use Rattle.csr_traps.proofs.Bits.{and_nothing}
 use Rattle.csr_traps.proofs.Rows.{◌▸◌}
 use Rattle.csr_traps.proofs.Within.{mask_within, with_bits-within, keeps_field, takes_field}
@@ -140,7 +140,8 @@ write_by harts stores value true (Some r) keep after is fit =
     subst Fit same (keep r refl harts stores value fit)
 write_by harts stores value false o keep after is fit = absurd cc
 
-pub write_fit : (stores : List ℕ) (number : ℕ) (mode : Mode) (value : ℕ) → StayFitAfterWrite stores number mode value
-unfolding StayFitAfterWrite StayFit
-write_fit stores number mode value after is harts fit =
+pub write_fit : (harts : ℕ) (stores : List ℕ) (number : ℕ) (mode : Mode) (value : ℕ) (after : List ℕ) →
+    csr_write stores number mode value ≡ Some after → AreFit harts stores → AreFit harts after
+unfolding csr_write
+write_fit harts stores number mode value after is fit =
     write_by harts stores value (not (is_read_only number) && is_allowed stores number mode) (row_of number) (row_fit number) after is fit

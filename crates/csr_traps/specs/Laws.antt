@@ -68,20 +68,3 @@ unfoldable pub IsView : List ℕ → Type 0
 IsView stores =
     (lines time whole part : ℕ) → csr_read stores 0x300 mode.M lines time ≡ Some whole → csr_read stores 0x100 mode.M lines time ≡ Some part →
     bit_and part 0xc0122 ≡ bit_and whole 0xc0122
-
--- stores that were fit still are
-unfoldable pub StayFit : List ℕ → List ℕ → Type 0
-StayFit before after = (harts : ℕ) → AreFit harts before → AreFit harts after
-
--- so they are after a write that is legal
-unfoldable pub StayFitAfterWrite : List ℕ → ℕ → Mode → ℕ → Type 0
-StayFitAfterWrite stores number mode value = (after : List ℕ) → csr_write stores number mode value ≡ Some after → StayFit stores after
-
--- so they are after a trap of a cause that a cause register can hold, at the address of an instruction
-unfoldable pub StayFitAfterTrap : List ℕ → ℕ → Mode → ℕ → ℕ → Type 0
-StayFitAfterTrap stores pc mode cause tval =
-    is_multiple pc 4 ≡ true → IsCause cause → StayFit stores (trap stores pc mode cause tval).stores
-
--- with fit stores this is the address of an instruction
-unfoldable pub IsReturnAddress : List ℕ → ℕ → Type 0
-IsReturnAddress stores pc = (harts : ℕ) → AreFit harts stores → is_multiple pc 4 ≡ true

@@ -1,7 +1,6 @@
 ghost use Rattle.std.specs.Prelude.{◌≡◌, ℕ, Bool, ◌<◌, slice_index};
 ghost use Rattle.flex_base.specs.Csrs.{AreFit, start_csrs, mie, mip, mstatus, satp};
 ghost use Rattle.flex_base.specs.Traps.{count};
-ghost use Rattle.csr_traps.specs.Laws.{StayFit};
 
 use flex_base::HartId;
 use std::marker::Model;
@@ -140,10 +139,10 @@ impl Csrs {
     ///
     /// An instruction that writes a counter doesn't count in it, and a trap is no instruction (Volume
     /// II, "Hardware Performance Monitor").
-    #[tactic(auto, using(crate::proofs::Fitting::count_fit))]
+    #[tactic(auto, using(crate::proofs::Fitting::count_fit), unfolding(flex_base::specs::Traps::count))]
     pub fn count(&mut self, cycle: bool, instret: bool)
         ensures stores { self.new ≡ count self.old cycle instret }
-        ensures fit { StayFit self.old (count self.old cycle instret) }
+        ensures fit { (harts : ℕ) → AreFit harts self.old → AreFit harts self.new }
     {
         if cycle {
             self.mcycle = self.mcycle.wrapping_add(1);

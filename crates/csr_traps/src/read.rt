@@ -31,7 +31,7 @@ impl Csrs {
     ///
     /// A number that isn't listed is refused, as are a mode below the number's, satp in S with TVM
     /// set, and a counter that isn't enabled below M (Volume II, "CSR Address Mapping Conventions").
-    #[tactic(auto, using(crate::proofs::Views::is_view))]
+    #[tactic(auto, using(crate::proofs::Views::is_view), unfolding(flex_base::specs::Csrs::csr_read))]
     pub fn read(&self, number: u16, mode: Mode, lines: u64, time: u64) -> Result<u64, IllegalCsr>
         ensures value { IfOk result (λ value. csr_read self.now number mode lines time ≡ Some value) }
         ensures refused { IsErr result ↔ (csr_read self.now number mode lines time ≡ None) }
@@ -48,6 +48,7 @@ impl Csrs {
     }
 
     /// Whether `read` gives a value, which is the same with all lines and at all times.
+    #[tactic(auto, unfolding(flex_base::specs::Csrs::csr_read))]
     pub fn may_read(&self, number: u16, mode: Mode) -> bool
         ensures { (lines time : ℕ) → result ≡ is_some (csr_read self.now number mode lines time) }
     {

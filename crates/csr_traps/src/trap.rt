@@ -1,9 +1,9 @@
 ghost use Rattle.std.specs.Prelude.{◌≡◌, ℕ, Bool, true, slice_index};
 ghost use Rattle.flex_base.specs.Causes.{is_interrupt, code_of};
-ghost use Rattle.flex_base.specs.Csrs.{mstatus};
+ghost use Rattle.flex_base.specs.Csrs.{AreFit, IsCause, mstatus};
 ghost use Rattle.flex_base.specs.Traps.{Transfer, trap, mret, sret, goes_to_s, handler, mstatus_after_trap_to_m, mstatus_after_trap_to_s, with_mprv_in_m};
 ghost use Rattle.flex_base.specs.Word.{is_multiple};
-ghost use Rattle.csr_traps.specs.Laws.{RestoresM, RestoresS, StayFit, StayFitAfterTrap, IsReturnAddress};
+ghost use Rattle.csr_traps.specs.Laws.{RestoresM, RestoresS};
 
 use crate::csrs::Csrs;
 use crate::status::{
@@ -18,13 +18,13 @@ impl Csrs {
     ///
     /// From S and U it goes to S where its cause is delegated, else to M (Volume II, "Machine Trap
     /// Delegation Registers", "Machine Trap-Vector Base-Address Register").
-    #[tactic(auto, using(crate::proofs::Laws::restores_m, crate::proofs::Laws::restores_s, crate::proofs::Fitting::trap_fit, crate::proofs::Fitting::handler_aligned))]
+    #[tactic(auto, using(crate::proofs::Laws::restores_m, crate::proofs::Laws::restores_s, crate::proofs::Fitting::trap_fit, crate::proofs::Fitting::handler_aligned), unfolding(flex_base::specs::Traps::trap))]
     pub fn enter_trap(&mut self, pc: u64, mode: Mode, cause: u64, tval: u64) -> (u64, Mode)
         ensures stores { self.new ≡ (trap self.old pc mode cause tval).stores }
         ensures pc { result.0 ≡ (trap self.old pc mode cause tval).pc }
         ensures mode { result.1 ≡ (trap self.old pc mode cause tval).mode }
         ensures aligned { is_multiple result.0 4 ≡ true }
-        ensures fit { StayFitAfterTrap self.old pc mode cause tval }
+        ensures fit { (harts : ℕ) → AreFit harts self.old → is_multiple pc 4 ≡ true → IsCause cause → AreFit harts self.new }
         // What a return from this very trap restores.
         ensures law { RestoresM (slice_index self.old mstatus) mode × RestoresS (slice_index self.old mstatus) mode }
     {
@@ -59,13 +59,13 @@ impl Csrs {
 
     /// Returns from a trap in M, and gives where to and in which mode. Whether the instruction is legal
     /// is the caller's test: in M alone (Volume II, "Trap-Return Instructions").
-    #[tactic(auto, using(crate::proofs::Fitting::mret_fit, crate::proofs::Fitting::mret_address))]
+    #[tactic(auto, using(crate::proofs::Fitting::mret_fit, crate::proofs::Fitting::mret_address), unfolding(flex_base::specs::Traps::mret))]
     pub fn mret(&mut self) -> (u64, Mode)
         ensures stores { self.new ≡ (mret self.old).stores }
         ensures pc { result.0 ≡ (mret self.old).pc }
         ensures mode { result.1 ≡ (mret self.old).mode }
-        ensures aligned { IsReturnAddress self.old (mret self.old).pc }
-        ensures fit { StayFit self.old (mret self.old).stores }
+        ensures aligned { (harts : ℕ) → AreFit harts self.old → is_multiple result.0 4 ≡ true }
+        ensures fit { (harts : ℕ) → AreFit harts self.old → AreFit harts self.new }
     {
         let status = self.mstatus;
         let mode = mode_of(pair(status, MPP));
@@ -77,13 +77,13 @@ impl Csrs {
     /// Returns from a trap in S, and gives where to and in which mode. Whether the instruction is legal
     /// is the caller's test: in M, and in S with TSR clear (Volume II, "Trap-Return Instructions",
     /// "Virtualization Support in mstatus Register").
-    #[tactic(auto, using(crate::proofs::Fitting::sret_fit, crate::proofs::Fitting::sret_address))]
+    #[tactic(auto, using(crate::proofs::Fitting::sret_fit, crate::proofs::Fitting::sret_address), unfolding(flex_base::specs::Traps::sret))]
     pub fn sret(&mut self) -> (u64, Mode)
         ensures stores { self.new ≡ (sret self.old).stores }
         ensures pc { result.0 ≡ (sret self.old).pc }
         ensures mode { result.1 ≡ (sret self.old).mode }
-        ensures aligned { IsReturnAddress self.old (sret self.old).pc }
-        ensures fit { StayFit self.old (sret self.old).stores }
+        ensures aligned { (harts : ℕ) → AreFit harts self.old → is_multiple result.0 4 ≡ true }
+        ensures fit { (harts : ℕ) → AreFit harts self.old → AreFit harts self.new }
     {
         let status = self.mstatus;
         let mode = mode_of(bit(status, SPP));

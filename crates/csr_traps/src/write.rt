@@ -1,6 +1,6 @@
 ghost use Rattle.std.specs.Prelude.{◌≡◌, ℕ, Bool, false, true, [], None, Some, is_some, not, ◌&&◌, IsErr, ◌↔◌, OnOk, OnErr, MatchOption};
-ghost use Rattle.flex_base.specs.Csrs.{csr_write, row_of, is_allowed, is_read_only, after_write, with_bits, takes_mstatus, takes_satp};
-ghost use Rattle.csr_traps.specs.Laws.{AllReadBack, StoreBitsAreWritten, StayFitAfterWrite};
+ghost use Rattle.flex_base.specs.Csrs.{AreFit, csr_write, row_of, is_allowed, is_read_only, after_write, with_bits, takes_mstatus, takes_satp};
+ghost use Rattle.csr_traps.specs.Laws.{AllReadBack, StoreBitsAreWritten};
 
 use crate::csrs::{Csrs, IllegalCsr};
 use crate::read::{CAUSE, INTERRUPTS, SATP, STATUS, SUPERVISOR_STATUS, is_pmpaddr};
@@ -16,12 +16,12 @@ impl Csrs {
     /// What `read` refuses is refused, and so is a number that is read-only; nothing changes then
     /// (Volume II, "CSR Address Mapping Conventions"). A write that changes no bit is none that is
     /// refused.
-    #[tactic(auto, using(crate::proofs::ReadBack::all_read_back, crate::proofs::Rows::store_bits_are_written, crate::proofs::Writing::write_fit))]
+    #[tactic(auto, using(crate::proofs::ReadBack::all_read_back, crate::proofs::Rows::store_bits_are_written, crate::proofs::Writing::write_fit), unfolding(flex_base::specs::Csrs::csr_write))]
     pub fn write(&mut self, number: u16, mode: Mode, value: u64) -> Result<(), IllegalCsr>
         ensures stores { OnOk result (csr_write self.old number mode value ≡ Some self.new) }
         ensures refused { IsErr result ↔ (csr_write self.old number mode value ≡ None) }
         ensures unchanged { OnErr result (self.new ≡ self.old) }
-        ensures fit { StayFitAfterWrite self.old number mode value }
+        ensures fit { (harts : ℕ) → AreFit harts self.old → AreFit harts self.new }
         // What is written reads back, and each bit of a store is written by some register.
         ensures law { AllReadBack × StoreBitsAreWritten }
     {
@@ -36,6 +36,7 @@ impl Csrs {
     }
 
     /// Whether `write` takes a value, which is the same of all values.
+    #[tactic(auto, unfolding(flex_base::specs::Csrs::csr_write))]
     pub fn may_write(&self, number: u16, mode: Mode) -> bool
         ensures { (value : ℕ) → result ≡ is_some (csr_write self.now number mode value) }
     {
