@@ -29,20 +29,21 @@ state_of hart = record {
   ends = hart.regs.ends;
   lines = hart.regs.lines;
   due = hart.regs.due;
+  csrs = hart.csrs;
 }
 
 pub is_there : (hart : Hart) → StandsFor hart (state_of hart)
 unfolding state_of
-is_there hart = record { regs = record { pc = refl; x = refl; mode = refl; reservation = refl; ends = refl; lines = refl; due = refl } }
+is_there hart = record { regs = record { pc = refl; x = refl; mode = refl; reservation = refl; ends = refl; lines = refl; due = refl }; csrs = refl }
 
 pub begun_in : (hart : Hart) (p : Progress) (layout : Layout) (budget : ℕ) → p ≡ progress.Begun → layout ≡ small
-    → ((a : State) → StandsFor hart a → IsFit 1048576 budget a) → IsIn (setup_of layout budget) (instruction_from (state_of hart)) hart p layout budget
+    → ((a : State) → StandsFor hart a → IsFit 1 1048576 budget a) → IsIn (setup_of layout budget) (instruction_from (state_of hart)) hart p layout budget
 begun_in hart p layout budget begun is all_fit =
     let a = state_of hart in
     let stands = is_there hart in
     let fit = all_fit a stands in
     let Sound : Progress → Type 0 = λ q. IsSoundProgress layout hart q in
-    let Fit : Layout → Type 0 = λ l. IsFit l.ram budget a in
+    let Fit : Layout → Type 0 = λ l. IsFit l.harts l.ram budget a in
     record {
       of = record { harts = refl; ram = refl; budget_is = refl; whole = ap (λ (l : Layout). is_multiple l.ram mebibyte) is };
       stands = stands;

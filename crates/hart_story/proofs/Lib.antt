@@ -3,3 +3,4 @@ pub mod Beginning
 pub mod Needing
 pub mod Operands
 pub mod Reserving
+pub mod Committing

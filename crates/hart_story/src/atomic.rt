@@ -1,9 +1,12 @@
-ghost use Rattle.std.specs.Prelude.{◌<◌};
-ghost use Rattle.flex_base.specs.Forms.{IsAtomicWidth};
-ghost use Rattle.flex_base.specs.Story.{loads_reserved, stores_conditional, concludes, modifies};
+ghost use Rattle.std.specs.Prelude.{◌<◌, ◌*◌, if◌then◌else◌};
+ghost use Rattle.flex_base.specs.Word.{low};
+ghost use Rattle.flex_base.specs.FlatMemory.{is_reserved, reservation_set};
+ghost use Rattle.flex_base.specs.Forms.{IsAtomicWidth, IsAlignedRam};
+ghost use Rattle.flex_base.specs.Story.{Says, loads_reserved, stores_conditional, concludes, modifies};
+ghost use Rattle.flex_base.specs.declared.access.Access.TheVariants as acc;
 ghost use Rattle.flex_base.specs.declared.settings.Layout.{Layout};
 ghost use Rattle.hart_story.specs.declared.hart.Hart.{Hart};
-ghost use Rattle.hart_story.specs.Outcome.{ComesTo, EndsAs, IsSoundEnd, IsSoundOutcome};
+ghost use Rattle.hart_story.specs.Outcome.{ComesTo, ComesAs, EndsAs, IsSoundEnd, IsSoundOutcome};
 
 use crate::causes::{
     LOAD_ACCESS_FAULT, LOAD_ADDRESS_MISALIGNED, STORE_ACCESS_FAULT, STORE_ADDRESS_MISALIGNED,
@@ -51,27 +54,36 @@ pub(crate) fn store_conditional(
     ensures works { ComesTo layout.now hart.now (λ setup a. stores_conditional setup a width rd address value) result }
     ensures sound { IsSoundOutcome layout.now hart.now result }
 {
-    let outcome = if is_reserved(hart.regs.reservation, reservation_set(address)) {
-        Outcome::Ask {
-            access: Access::Sc {
-                address,
-                width,
-                value: cut(width, value),
-            },
-            signed: false,
-            rd,
-        }
-    } else {
-        Outcome::End(end_conditional(hart, rd, 1))
-    };
     reach_ram(
         layout,
         address,
         width,
         STORE_ADDRESS_MISALIGNED,
         STORE_ACCESS_FAULT,
-        outcome,
+        conditional(hart, width, rd, address, value),
     )
+}
+
+fn conditional(hart: &Hart, width: u8, rd: u8, address: u64, value: u64) -> Outcome
+    requires width { IsAtomicWidth width }
+    requires register { rd < 32 }
+    ensures works { ComesAs hart.now (λ a. if is_reserved a.reservation (reservation_set address)
+        then Says (acc.Sc address width (low (8 * width) value)) (λ reply. concludes a rd reply.value)
+        else concludes a rd 1) result }
+    ensures sound { (layout : Layout) → IsAlignedRam layout.ram address width → IsSoundOutcome layout hart.now result }
+{
+    if !is_reserved(hart.regs.reservation, reservation_set(address)) {
+        return Outcome::End(end_conditional(hart, rd, 1));
+    }
+    Outcome::Ask {
+        access: Access::Sc {
+            address,
+            width,
+            value: cut(width, value),
+        },
+        signed: false,
+        rd,
+    }
 }
 
 // A store-conditional ends the hart's reservation, whether it stored or not (Volume I,

@@ -1,11 +1,13 @@
 // CSR instructions (Volume I, "Zicsr").
-ghost use Rattle.std.specs.Prelude.{◌≡◌, ◌<◌};
+ghost use Rattle.std.specs.Prelude.{◌≡◌, ◌<◌, ℕ};
 ghost use Rattle.flex_base.specs.State.{State};
 ghost use Rattle.flex_base.specs.Zicsr.{reads_csr, writes_csr, csr_operand, csr_result, may_use_csr, is_pending_csr, csr_value, makes_due, turns_translation_on};
 ghost use Rattle.flex_base.specs.Story.{uses_csr, updates_csr};
 ghost use Rattle.flex_base.specs.declared.settings.Layout.{Layout};
 ghost use Rattle.hart_story.specs.StandsFor.{Shows};
 ghost use Rattle.hart_story.specs.Outcome.{ComesAs, IsSoundOutcome};
+ghost use Rattle.hart_story.specs.Progress.{left};
+ghost use Rattle.hart_story.specs.declared.progress.Progress.TheVariants as Progress;
 
 use crate::ends::end_with;
 use crate::hart::{Hart, read};
@@ -72,18 +74,12 @@ pub(crate) fn use_csr(hart: &Hart, word: u32, op: CsrOp, rd: u8, rs1: u8, number
 }
 
 // What follows once the instruction has the old value, which is 0 where it doesn't read.
-pub(crate) fn update_csr(
-    hart: &Hart,
-    op: CsrOp,
-    rd: u8,
-    rs1: u8,
-    number: u16,
-    old: u64,
-) -> Outcome
+pub(crate) fn update_csr(hart: &Hart, op: CsrOp, rd: u8, rs1: u8, number: u16, old: u64) -> Outcome
     requires rd { rd < 32 }
     requires rs1 { rs1 < 32 }
     ensures works { ComesAs hart.now (λ a. updates_csr a op rd rs1 number old) result }
     ensures sound { (layout : Layout) → IsSoundOutcome layout hart.now result }
+    ensures last { (lines : ℕ) → left (Progress.Working lines result) ≡ 0 }
 {
     if !writes(op, rs1) {
         return Outcome::End(end_with(hart, Class::Csr, rd, old));

@@ -86,14 +86,7 @@ fn commit_trap(hart: &mut Hart, lines: u64, cause: u64, tval: u64) -> EndPart
 }
 
 // An instruction that writes a counter doesn't count in it.
-fn commit_csr(
-    hart: &mut Hart,
-    lines: u64,
-    number: u16,
-    rd: u8,
-    old: u64,
-    value: u64,
-) -> EndPart
+fn commit_csr(hart: &mut Hart, lines: u64, number: u16, rd: u8, old: u64, value: u64) -> EndPart
     requires unspent { hart.old.regs.ends < 2 ^ 64 - 1 }
     requires register { rd < 32 }
     ensures commits { (layout : Layout) (budget : ℕ)
@@ -103,7 +96,8 @@ fn commit_csr(
     let pc = hart.regs.pc;
     let next = pc.wrapping_add(4);
     write_csr(hart, number, value);
-    hart.csrs.count(number != CSR_MCYCLE, number != CSR_MINSTRET);
+    hart.csrs
+        .count(number != CSR_MCYCLE, number != CSR_MINSTRET);
     hart.regs.pc = next;
     hart.regs.set(rd, old);
     close(hart, lines, makes_due(number));

@@ -13,7 +13,10 @@ pub enum Outcome {
         rd: u8,
     },
     /// A trap, which is its end.
-    Trap { cause: u64, tval: u64 },
+    Trap {
+        cause: u64,
+        tval: u64,
+    },
     /// The pulse by which a CSR instruction reads the pending interrupts. `rs1` is a register or an
     /// immediate.
     AskPending {

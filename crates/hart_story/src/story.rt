@@ -106,7 +106,7 @@ pub fn finish(hart: &mut Hart, progress: Progress, layout: &Layout, budget: u64)
         → IsOwn (own_in setup i) hart.new.regs.reservation }
     ensures count { hart.new.regs.ends ≡ hart.old.regs.ends + 1 }
 {
-    let Ending { lines, outcome } = ending(hart, progress);
+    let Ending { lines, outcome } = end_of_story(hart, progress);
     commit(hart, lines, &outcome)
 }
 
@@ -118,7 +118,7 @@ struct Ending {
 
 // An instruction that ends at its beginning is interrupted, or its word doesn't lie in RAM; after the
 // pulse interrupts were looked at.
-fn ending(hart: &Hart, progress: Progress) -> Ending
+fn end_of_story(hart: &Hart, progress: Progress) -> Ending
     requires { is_done progress ≡ false }
     ensures node { (setup : Setup) (i : Instruction) (part : EndPart) (after : State) (layout : Layout) (budget : ℕ)
         → IsIn setup i hart.now progress layout budget → IsEnding setup i part after
@@ -262,14 +262,7 @@ fn after_pulse(hart: &Hart, reply: Reply) -> Progress
 }
 
 // So does the pulse by which a CSR instruction reads the pending interrupts; it goes on in any case.
-fn after_csr_pulse(
-    hart: &Hart,
-    op: CsrOp,
-    rd: u8,
-    rs1: u8,
-    number: u16,
-    reply: Reply,
-) -> Progress
+fn after_csr_pulse(hart: &Hart, op: CsrOp, rd: u8, rs1: u8, number: u16, reply: Reply) -> Progress
     requires rd { rd < 32 }
     requires rs1 { rs1 < 32 }
     ensures node { (setup : Setup) (a : State) → Shows hart.now a

@@ -1,13 +1,12 @@
 // Privileged instructions (Volume II, "Machine-Mode Privileged Instructions", "Supervisor
 // Instructions").
-ghost use Rattle.std.specs.Prelude.{◌≡◌, ◌<◌, ℕ};
+ghost use Rattle.std.specs.Prelude.{◌≡◌, ◌<◌, if◌then◌else◌};
 ghost use Rattle.flex_base.specs.State.{State};
-ghost use Rattle.flex_base.specs.Csrs.{TSR, TW, TVM, IsCause};
-ghost use Rattle.flex_base.specs.Causes.{ecall_from, breakpoint};
+ghost use Rattle.flex_base.specs.Csrs.{TSR, TW, TVM};
+ghost use Rattle.flex_base.specs.Causes.{illegal_instruction, breakpoint, ecall_from};
 ghost use Rattle.flex_base.specs.Traps.{mret, sret};
 ghost use Rattle.flex_base.specs.Story.{traps, traps_illegal, returns, supervises, is_machine, ComesLater};
 ghost use Rattle.flex_base.specs.declared.settings.Layout.{Layout};
-ghost use Rattle.hart_story.specs.declared.hart.Hart.{Hart};
 ghost use Rattle.hart_story.specs.StandsFor.{Shows};
 ghost use Rattle.hart_story.specs.Outcome.{ComesAs, IsSoundOutcome};
 
@@ -25,8 +24,7 @@ const TW: u32 = 21;
 const TSR: u32 = 22;
 
 pub(crate) fn illegal(word: u32) -> Outcome
-    ensures works { (hart : Hart) → ComesAs hart (λ a. traps_illegal a word) result }
-    ensures sound { (layout : Layout) (hart : Hart) → IsSoundOutcome layout hart result }
+    ensures { result ≡ Outcome.Trap illegal_instruction word }
 {
     Outcome::Trap {
         cause: ILLEGAL_INSTRUCTION,
@@ -47,8 +45,7 @@ pub(crate) fn ecall(hart: &Hart) -> Outcome
 }
 
 pub(crate) fn ebreak() -> Outcome
-    ensures works { (hart : Hart) → ComesAs hart (λ a. traps a breakpoint 0) result }
-    ensures sound { (layout : Layout) (hart : Hart) → IsSoundOutcome layout hart result }
+    ensures { result ≡ Outcome.Trap breakpoint 0 }
 {
     Outcome::Trap {
         cause: BREAKPOINT,

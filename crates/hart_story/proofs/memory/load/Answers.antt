@@ -1,7 +1,13 @@
--- The exceptions of a load.
-use Rattle.flex_base.specs.Causes.{load_address_misaligned, load_access_fault}
+-- The access of a load, or its exceptions.
 use Rattle.hart_story.proofs.memory.load.Goals as goal
 
 pub returns-clause-works : goal.returns-clause-works
-returns-clause-works c = λ hart setup budget a of shown.
-    c.where_in_ram.ensures.reaches setup budget a load_address_misaligned load_access_fault of
+returns-clause-works c = λ hart setup budget a of shown. c.reach.ensures.reaches setup budget a of
+
+pub returns-clause-sound : goal.returns-clause-sound
+returns-clause-sound c = λ hart. c.reach.ensures.sound hart (λ lies. record {
+  of_memory = tt;
+  placed = (c.requires.width, lies);
+  register = c.requires.register;
+  reserved = tt;
+})

@@ -1,5 +1,5 @@
--- The exceptions of a store.
-use Rattle.std.proofs.Common.{ap, sym, ◌∙◌}
+-- The access of a store, or its exceptions.
+use Rattle.std.proofs.Common.{ap, sym, ◌∙◌, arith}
 use Rattle.flex_base.specs.Causes.{store_address_misaligned, store_access_fault}
 use Rattle.flex_base.specs.Story.{Says, passes, reaches}
 use Rattle.flex_base.specs.declared.access.Access.TheVariants as acc
@@ -10,4 +10,12 @@ pub returns-clause-works : goal.returns-clause-works
 returns-clause-works c = λ hart setup budget a of shown.
     ap (λ value. reaches setup a c.args.address c.args.width store_address_misaligned store_access_fault
     (Says (acc.Write c.args.address c.args.width value) (λ reply. passes a class.Store))) (sym c.cut.ensures)
-    ∙ c.where_in_ram.ensures.reaches setup budget a store_address_misaligned store_access_fault of
+    ∙ c.reach.ensures.reaches setup budget a of
+
+pub returns-clause-sound : goal.returns-clause-sound
+returns-clause-sound c = λ hart. c.reach.ensures.sound hart (λ lies. record {
+  of_memory = tt;
+  placed = (c.requires, lies);
+  register = omega arith;
+  reserved = tt;
+})

@@ -1,18 +1,29 @@
 -- The end is what the instruction has come to.
-use Rattle.std.proofs.Common.{◌≡◌, ◌+◌, ℕ, Option, ap, sym, subst, ◌∙◌, arith}
-use Rattle.flex_base.specs.Word.{is_multiple}
-use Rattle.flex_base.specs.State.{State, set_reg, IsReservation}
+use Rattle.std.proofs.Common.{◌≡◌, ◌<◌, ap, sym, subst, ◌∙◌, arith}
+use Rattle.flex_base.specs.Setup.{Setup}
+use Rattle.flex_base.specs.State.{State}
 use Rattle.flex_base.specs.Reservations.{IsOwn}
-use Rattle.flex_base.specs.Story.{Ends, story, want}
+use Rattle.flex_base.specs.Story.{Want, Ends, story, want}
+use Rattle.flex_base.specs.Unsplit.{Instruction}
 use Rattle.flex_base.specs.declared.event.EndPart.{EndPart}
 use Rattle.flex_base.proofs.OwnReservations.{story_reserves, ends_own}
 use Rattle.flex_base.proofs.Stories.{ends_unspent}
-use Rattle.hart_story.specs.Outcome.{IsSoundEnd}
-use Rattle.hart_story.specs.Progress.{node, IsSoundProgress}
-use Rattle.hart_story.specs.declared.outcome.Outcome.TheVariants as outcome
-use Rattle.hart_story.specs.declared.progress.Progress.{Progress}
-use Rattle.hart_story.specs.declared.progress.Progress.TheVariants as progress
+use Rattle.hart_story.specs.Outcome.{outcome_of}
+use Rattle.hart_story.specs.Progress.{IsIn, IsEnding, EndsWith, want_in}
+use Rattle.hart_story.proofs.Committing.{comes_to_end, ends_with}
 use Rattle.hart_story.proofs.story.finish.Goals as goal
+
+pub commit-requires-clause-end : goal.commit-requires-clause-end
+commit-requires-clause-end c =
+    let setup = c.requires.0 in
+    let i = c.requires.1 in
+    let part = c.requires.2 in
+    let after = c.requires.3 in
+    let at = c.requires.4 in
+    let ending = c.requires.5 in
+    let node = c.end_of_story-lines.ensures.node setup i part after c.args.layout.now c.args.budget at ending in
+    comes_to_end (record i.state { lines = c.end_of_story-lines.result.lines }) c.end_of_story-lines.result.outcome part after
+    (sym (ap want (at.reached ∙ node)) ∙ ending)
 
 pub commit-requires-clause-unspent : goal.commit-requires-clause-unspent
 commit-requires-clause-unspent c =
@@ -21,42 +32,31 @@ commit-requires-clause-unspent c =
     let unspent = ends_unspent c.requires.0 i.state i.replies c.requires.2 c.requires.3 c.requires.5 in
     omega (arith, at.fit.within, at.of.budget_is, at.stands.regs.ends, unspent, c.ranges.budget)
 
+pub commit-requires-clause-sound : goal.commit-requires-clause-sound
+commit-requires-clause-sound c = (c.args.layout.now, c.end_of_story-lines.ensures.sound c.args.layout.now c.requires.4.sound)
+
+-- the end, and the state for which the hart stands then
+ends : (c : goal.After-commit) (setup : Setup) (i : Instruction) (part : EndPart) (after : State)
+    → IsIn setup i c.args.hart.now c.args.progress c.args.layout.now c.args.budget → IsEnding setup i part after
+    → EndsWith setup (want_in setup i) c.commit.result c.commit.new.hart
+ends c setup i part after at ending =
+    let node = c.end_of_story-lines.ensures.node setup i part after c.args.layout.now c.args.budget at ending in
+    let unspent = ends_unspent setup i.state i.replies part after ending in
+    let left : i.state.ends < setup.budget = omega (arith, at.fit.within, unspent) in
+    let sound = c.end_of_story-lines.ensures.sound c.args.layout.now at.sound in
+    let committed = c.commit.ensures.commits c.args.layout.now c.args.budget sound setup i.state at.of at.stands at.fit left in
+    let Wants : Want → Type 0 = λ w. EndsWith setup w c.commit.result c.commit.new.hart in
+    subst Wants (sym (ap want (at.reached ∙ node)))
+    (ends_with setup (outcome_of (record i.state { lines = c.end_of_story-lines.result.lines }) c.end_of_story-lines.result.outcome)
+    c.commit.result c.commit.new.hart committed)
+
 pub returns-clause-ends : goal.returns-clause-ends
-returns-clause-ends c = λ setup i part after at ending.
-    let a = i.state in
-    let lines = c.in-Working-default-End.lines in
-    let end = c.in-Working-default-End.end in
-    let made : c.in-Working-default-End.field-1 ≡ outcome.End end = rw c.in-Working-default-End.is at c.in-Working-default-End.field-1-is in
-    let is : c.args.progress ≡ progress.Working lines (outcome.End end) = c.in-Working-default-End.is ∙ ap (progress.Working lines) made in
-    let Sound : Progress → Type 0 = λ p. IsSoundProgress c.args.layout.now c.args.hart.now p in
-    let sound : IsSoundEnd c.args.layout.now c.args.hart.now end = subst Sound is at.sound in
-    let is_end = ap want (at.reached ∙ ap (node setup a) is) in
-    let committed = c.commit.ensures.commits a at.stands in
-    let unspent = ends_unspent setup a i.replies part after ending in
-    let left : State = record a { pc = end.next; x = set_reg a.x end.rd end.value; reservation = end.reservation; lines = lines; ends = a.ends + 1; due = is_multiple (a.ends + 1) 64 } in
-    let Within : ℕ → Type 0 = λ ram. IsReservation ram c.args.hart.now.regs.reservation in
-    let Left : ℕ → Type 0 = λ ram. IsReservation ram end.reservation in
-    let Kept : Option ℕ → Type 0 = λ r. IsReservation setup.ram r in
-    let own = subst Kept (sym at.stands.regs.reservation) at.fit.reserved in
-    record {
-      after = left;
-      ends = is_end ∙ ap (λ (p : EndPart). Ends p left) (sym committed.0);
-      stands = committed.1;
-      fit = record {
-        aligned = sound.aligned (ap (λ pc. is_multiple pc 4) at.stands.regs.pc ∙ at.fit.aligned);
-        within = omega (arith, at.fit.within, unspent);
-        reserved = subst Left (sym at.of.ram) (sound.reserved at.of.whole (subst Within at.of.ram own));
-      };
-    }
+returns-clause-ends c = λ setup i part after at ending. ends c setup i part after at ending
 
 pub returns-clause-reservation : goal.returns-clause-reservation
 returns-clause-reservation c = λ setup i part after at ending.
     let a = i.state in
-    let lines = c.in-Working-default-End.lines in
-    let end = c.in-Working-default-End.end in
-    let made : c.in-Working-default-End.field-1 ≡ outcome.End end = rw c.in-Working-default-End.is at c.in-Working-default-End.field-1-is in
-    let is : c.args.progress ≡ progress.Working lines (outcome.End end) = c.in-Working-default-End.is ∙ ap (progress.Working lines) made in
-    let committed = c.commit.ensures.commits a at.stands in
+    let left = ends c setup i part after at ending in
     let held : IsOwn a.reservation a.reservation = λ set e. e in
-    let own = ends_own a.reservation (story setup a) i.replies _ _ (story_reserves setup a.reservation a held) (ap want (at.reached ∙ ap (node setup a) is)) in
-    λ set e. own set (sym committed.1.regs.reservation ∙ e)
+    let own = ends_own a.reservation (story setup a) i.replies c.commit.result left.after (story_reserves setup a.reservation a held) left.ends in
+    λ set e. own set (sym left.stands.regs.reservation ∙ e)
