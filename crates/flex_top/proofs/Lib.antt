@@ -1,4 +1,5 @@
 pub mod Doing
+pub mod Told
 pub mod WordsLemmas
 pub mod HexDigits
 pub mod Banks

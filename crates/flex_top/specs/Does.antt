@@ -1,6 +1,6 @@
 -- What a command does: its answer, and what it leaves outside.
-use Rattle.std.specs.Prelude.{◌≡◌, ◌≢◌, ℕ, ◌-◌, ◌^◌, ◌<◌, ◌⊎◌, List, Option, None, Some, IfSome, IsSomeAnd}
-use Rattle.flex_base.specs.Files.{Counts, Said, SaidPart}
+use Rattle.std.specs.Prelude.{◌≡◌, ◌≢◌, ℕ, ◌-◌, ◌^◌, ◌<◌, ◌⊎◌, List, Option, None, Some, IfSome}
+use Rattle.flex_base.specs.Files.{Files, Counts, Said, SaidPart}
 use Rattle.flex_base.specs.Outside.{Outside, Writes, Says}
 use Rattle.flex_top.specs.Words.{Reading}
 use Rattle.flex_top.specs.Answer.{Outcome, expected, outcome, image_limit}
@@ -49,14 +49,17 @@ pub record LeavesPart (o : Outcome) (old new : Outside) : Type 0 where
 
 -- what `solo` does
 pub record Does (r : Reading) (old : Outside) (answer : Status) (new : Outside) : Type 0 where
-  -- by the files that can be taken, where they are told: the answer, and that it comes where the outside has no fault
-  pub answers : IfSome old.held (λ files. Answers (files r.image) (expected r files) answer)
-  pub completes : IsSomeAnd old.held (λ files. expected r files ≡ status.Ended) → IsCalm old.read_faults new.read_faults
+  -- the files that it goes by, which are those that can be taken where these are told
+  pub files : Files
+  pub told : IfSome old.held (λ held. files ≡ held)
+  -- the answer that they lead to, and that it comes where the outside has no fault
+  pub answers : Answers (files r.image) (expected r files) answer
+  pub completes : expected r files ≡ status.Ended → IsCalm old.read_faults new.read_faults
       → IsCalm old.write_faults new.write_faults → IsEnded answer
-  -- what is left once it has ended, and where a write failed
-  pub ended : answer ≡ status.Ended → IfSome old.held (λ files. Leaves (outcome r files) old new)
-  pub cut : answer ≡ status.WriteFault → IfSome old.held (λ files. LeavesPart (outcome r files) old new)
-  -- whatever is told: else nothing is written, never another file; nothing is said so far; files that can be taken stay
+  -- what is left of their outcome once it has ended, and where a write failed
+  pub ended : answer ≡ status.Ended → Leaves (outcome r files) old new
+  pub cut : answer ≡ status.WriteFault → LeavesPart (outcome r files) old new
+  -- else nothing is written, never another file; nothing is said so far; files that can be taken stay
   pub nothing : answer ≢ status.Ended → answer ≢ status.WriteFault → new.written ≡ old.written
   pub others : Writes old new r.trace (λ was is. Unit {0})
   pub said : new.said ≡ old.said
