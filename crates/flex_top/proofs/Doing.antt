@@ -12,8 +12,9 @@ use Rattle.flex_base.specs.Built.{first_unbuilt}
 use Rattle.flex_base.specs.Journal.{console}
 use Rattle.flex_base.specs.declared.event.Event.{Event}
 use Rattle.flex_base.specs.declared.settings.Settings.{Settings}
+use Rattle.image_loader.specs.declared.fault.ImageFault.TheVariants as image
 use Rattle.flex_top.specs.Words.{Reading}
-use Rattle.flex_top.specs.Answer.{image_limit, loaded, image_from, setup_of, journal_of, answer_of_run, answer_of, expected, outcome_of}
+use Rattle.flex_top.specs.Answer.{image_limit, image_in, image_from, setup_of, journal_of, answer_of_run, answer_of, expected, outcome_of}
 use Rattle.flex_top.specs.Play.{IsReached}
 use Rattle.flex_top.specs.Trace.{tail_of, whole_text}
 use Rattle.flex_top.specs.Does.{IsAnswer, Answers, IsCalm, IsEnded, WritesAll, WritesPart, Leaves, LeavesPart, Does}
@@ -22,7 +23,6 @@ use Rattle.flex_top.specs.declared.player.Player.{Player}
 use Rattle.flex_top.specs.declared.text.tail_text.TailLine.{TailLine}
 use Rattle.flex_top.specs.declared.status.Status.{Status}
 use Rattle.flex_top.specs.declared.status.Status.TheVariants as status
-use Rattle.flex_top.specs.declared.status.ImageFault.TheVariants as image
 use Rattle.flex_top.proofs.Writing.{trace_is, run_quiet}
 
 -- a call whose count stays has not failed
@@ -43,12 +43,12 @@ within : (file : List ℕ) → length file ≤ image_limit → nat_lt image_limi
 within file fits = grind (arith, nat_tests)
 
 -- a file within the limit is loaded
-taken_within : (file : List ℕ) (ram : ℕ) → length file ≤ image_limit → image_from (Some file) ram ≡ loaded file ram
-taken_within file ram fits = ap (λ b. if b then Err (status.ImageRefused (image.TooLong (length file))) else loaded file ram) (within file fits)
+taken_within : (file : List ℕ) (ram : ℕ) → length file ≤ image_limit → image_from (Some file) ram ≡ image_in file ram
+taken_within file ram fits = ap (λ b. if b then Err (status.ImageRefused (image.TooLong (length file))) else image_in file ram) (within file fits)
 
 -- what holds of a file that was taken, holds where files are told
 told_by : (held : Option Files) (name file : List ℕ) (ram : ℕ) (P : Option (List ℕ) → Result Loaded Status → Type 0) → Taken held name image_limit (Ok file) → length file ≤ image_limit
-    → P (Some file) (loaded file ram) → IfSome held (λ files. P (files name) (image_from (files name) ram))
+    → P (Some file) (image_in file ram) → IfSome held (λ files. P (files name) (image_from (files name) ram))
 told_by None name file ram P took fits holds = tt
 told_by (Some files) name file ram P took fits holds =
     let At : Option (List ℕ) → Type 0 = λ o. P o (image_from o ram) in
@@ -57,7 +57,7 @@ told_by (Some files) name file ram P took fits holds =
 
 -- an expectation of the files that are told, of the file that was taken
 expected_of : (held : Option Files) (r : Reading) (file : List ℕ) → Taken held r.image image_limit (Ok file) → length file ≤ image_limit
-    → IsSomeAnd held (λ files. expected r files ≡ status.Ended) → answer_of (loaded file r.settings.ram) r.settings r.order ≡ status.Ended
+    → IsSomeAnd held (λ files. expected r files ≡ status.Ended) → answer_of (image_in file r.settings.ram) r.settings r.order ≡ status.Ended
 expected_of None r file took fits ends = absurd ends
 expected_of (Some files) r file took fits ends =
     ap (λ (l : Result Loaded Status). answer_of l r.settings r.order) (sym (ap (λ (o : Option (List ℕ)). image_from o r.settings.ram) took ∙ taken_within file r.settings.ram fits)) ∙ ends
@@ -80,9 +80,9 @@ part_from old mid new (Some file) same writes = writes_from old.written mid.writ
 
 -- the image was taken, and `solo` did the rest
 pub does_solo : (r : Reading) (old mid new : Outside) (file : List ℕ) (answer : Status) (Fails : Type 0) → Taken old.held r.image image_limit (Ok file) → length file ≤ image_limit → OnlyReads old mid Fails
-    → IsAnswer (answer_of (loaded file r.settings.ram) r.settings r.order) answer
-    → (answer ≡ status.Ended → Leaves (outcome_of (loaded file r.settings.ram) r) mid new)
-    → (answer ≡ status.WriteFault → LeavesPart (outcome_of (loaded file r.settings.ram) r) mid new)
+    → IsAnswer (answer_of (image_in file r.settings.ram) r.settings r.order) answer
+    → (answer ≡ status.Ended → Leaves (outcome_of (image_in file r.settings.ram) r) mid new)
+    → (answer ≡ status.WriteFault → LeavesPart (outcome_of (image_in file r.settings.ram) r) mid new)
     → (answer ≢ status.Ended → answer ≢ status.WriteFault → new.written ≡ mid.written) → Writes mid new r.trace (λ was is. Unit {0})
     → OnlyWrites mid new (answer ≡ status.WriteFault) → answer ≢ status.ReadFault → ((n : ℕ) → answer ≢ status.ImageRefused (image.TooLong n)) → Does r old answer new
 does_solo r old mid new file answer Fails took fits took_only is ended cut nothing others writes unread short = record {
@@ -95,14 +95,14 @@ does_solo r old mid new file answer Fails took fits took_only is ended cut nothi
   ended = λ at.
       let left = ended at in
       told_by old.held r.image file r.settings.ram (λ o l. Leaves (outcome_of l r) old new) took fits (record {
-        said = says_from old.said mid.said new.said (Said (outcome_of (loaded file r.settings.ram) r).said) took_only.said left.said;
-        file = all_from old mid new (outcome_of (loaded file r.settings.ram) r).file took_only.written left.file;
+        said = says_from old.said mid.said new.said (Said (outcome_of (image_in file r.settings.ram) r).said) took_only.said left.said;
+        file = all_from old mid new (outcome_of (image_in file r.settings.ram) r).file took_only.written left.file;
       });
   cut = λ at.
       let left = cut at in
       told_by old.held r.image file r.settings.ram (λ o l. LeavesPart (outcome_of l r) old new) took fits (record {
-        said = says_from old.said mid.said new.said (SaidPart (outcome_of (loaded file r.settings.ram) r).said) took_only.said left.said;
-        file = part_from old mid new (outcome_of (loaded file r.settings.ram) r).file took_only.written left.file;
+        said = says_from old.said mid.said new.said (SaidPart (outcome_of (image_in file r.settings.ram) r).said) took_only.said left.said;
+        file = part_from old mid new (outcome_of (image_in file r.settings.ram) r).file took_only.written left.file;
       });
   nothing = λ unended unfailed. nothing unended unfailed ∙ took_only.written;
   others = writes_from old.written mid.written new.written r.trace (λ was is. Unit {0}) took_only.written others;

@@ -1,3 +1,4 @@
+pub mod Images
 pub mod Doing
 pub mod WordsLemmas
 pub mod HexDigits
