@@ -19,8 +19,9 @@ const IMAGE_LIMIT: u64 = 268_435_456;
 ///
 /// `solo IMAGE TRACE`, which options may follow, plays the harts over the image in the file of that
 /// name, in the given order and then in rounds, and writes the trace of the run under the other
-/// name. No other file is touched, and nothing is said. After an answer other than `Ended` and `WriteFault`
-/// nothing is written; after `WriteFault` the file is as it was, or the beginning of the trace.
+/// name. No other file is touched, and nothing is said. After an answer other than `Ended` and
+/// `WriteFault` nothing is written; after `WriteFault` the file is as it was, or the beginning of the
+/// trace.
 #[tactic(auto, using(flex_base::proofs::EndOfRun::run_goes_on, crate::proofs::Writing::built_whole))]
 pub fn flex_top<O: Outer>(alloc: Global, words: &[String], outer: &mut O) -> Status
     ensures usage { (result ≡ Status.Usage) ↔ (reading (map string_bytes words.now) ≡ None) }

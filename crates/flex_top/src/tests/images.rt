@@ -13,7 +13,7 @@ use std::test::Fail;
 const ELF: [u64; 37] = [
     // The ELF header: entry, offset of the program headers, and, at last, how many there are.
     0x0001_0102_464c_457f, 0, 0x0000_0001_00f3_0002, 0x8000_0004, 64, 0, 0x0038_0040_0000_0000, 3,
-    // Each program header: type and flags, offset, virtual and physical address, bytes in the file and in RAM, alignment.
+    // Each program header: type and flags, offset, virtual and physical address, sizes in file and RAM, alignment.
     0x0000_0005_0000_0001, 232, 0x8000_0000, 0x8000_0000, 20, 20, 4,
     0x0000_0006_0000_0001, 256, 0x8000_1000, 0x8000_1000, 8, 32, 8,
     0x0000_0004_7000_0003, u64::MAX, 0, u64::MAX, u64::MAX, 0, 1,
