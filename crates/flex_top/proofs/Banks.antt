@@ -1,14 +1,18 @@
 -- The one bank that holds all of RAM.
-use Rattle.std.proofs.Common.{◌≡◌, ℕ, ◌/◌, ◌%◌, true, if◌then◌else◌, List, ap, sym, subst, ◌∙◌, arith}
+use Rattle.std.proofs.Common.{◌≡◌, ℕ, ◌/◌, ◌%◌, true, if◌then◌else◌, List, [], ap, sym, subst, ◌∙◌, arith}
 use Rattle.flex_base.specs.Forms.{IsInRam, IsPlaced}
 use Rattle.flex_base.specs.declared.access.Access.TheVariants as acc
+use Rattle.flex_base.specs.Loaded.{Loaded}
 use Rattle.flex_base.specs.Setup.{Setup}
 use Rattle.flex_base.specs.FlatMemory.{Done, is_ram_access}
 use Rattle.flex_base.specs.Unsplit.{with_access}
 use Rattle.flex_base.specs.declared.access.Access.{Access}
 use Rattle.flex_base.specs.declared.access.Reply.{Reply}
+use Rattle.flex_base.specs.declared.settings.Settings.{Settings}
+use Rattle.image_loader.specs.Loading.{IsSameStart}
 use Rattle.mem_lines.specs.Bank.{Bank, IsBank, IsReplay, IsSame, bank_of, address_of}
 use Rattle.mem_lines.specs.Steps.{IsHere}
+use Rattle.flex_top.specs.Answer.{setup_of}
 use Rattle.flex_top.specs.Memory.{Keeps, ram_after}
 
 -- all of RAM after one more access of it
@@ -31,6 +35,14 @@ in_ram_of harts ram (acc.Lr address width) is placed = placed
 in_ram_of harts ram (acc.Sc address width value) is placed = placed
 in_ram_of harts ram (acc.Amo op address width value) is placed = placed
 in_ram_of harts ram other is placed = absurd cc
+
+-- the bank that holds one image at the start holds each image with the same bytes
+pub same_start : (start image : Loaded) (settings : Settings) (bank : Bank) → IsSameStart start image → IsReplay (setup_of image settings) [] bank → IsReplay (setup_of start settings) [] bank
+same_start start image settings bank same replay = record {
+  ram = replay.ram;
+  each = λ address inside. replay.each address inside ∙ sym (same.bytes address);
+  reservations = replay.reservations;
+}
 
 one_bank : (n : ℕ) → n % 1 ≡ 0
 one_bank n = omega arith

@@ -13,8 +13,9 @@ use Rattle.flex_base.specs.Journal.{console}
 use Rattle.flex_base.specs.declared.event.Event.{Event}
 use Rattle.flex_base.specs.declared.settings.Settings.{Settings}
 use Rattle.flex_base.specs.declared.outer.TakeFault.TheVariants as fault
+use Rattle.image_loader.specs.declared.fault.ImageFault.TheVariants as image
 use Rattle.flex_top.specs.Words.{Reading}
-use Rattle.flex_top.specs.Answer.{image_limit, loaded, image_from, setup_of, journal_of, answer_of_run, answer_of, expected, outcome_of}
+use Rattle.flex_top.specs.Answer.{image_limit, image_in, image_from, setup_of, journal_of, answer_of_run, answer_of, expected, outcome_of}
 use Rattle.flex_top.specs.Play.{IsReached}
 use Rattle.flex_top.specs.Trace.{tail_of, whole_text}
 use Rattle.flex_top.specs.Does.{IsAnswer, Answers, IsCalm, IsEnded, WritesAll, WritesPart, Leaves, LeavesPart, Does}
@@ -23,7 +24,6 @@ use Rattle.flex_top.specs.declared.player.Player.{Player}
 use Rattle.flex_top.specs.declared.text.tail_text.TailLine.{TailLine}
 use Rattle.flex_top.specs.declared.status.Status.{Status}
 use Rattle.flex_top.specs.declared.status.Status.TheVariants as status
-use Rattle.flex_top.specs.declared.status.ImageFault.TheVariants as image
 use Rattle.flex_top.proofs.Writing.{trace_is, run_quiet}
 
 -- a call whose count stays has not failed
@@ -44,8 +44,8 @@ within : (file : List ℕ) → length file ≤ image_limit → nat_lt image_limi
 within file fits = grind (arith, nat_tests)
 
 -- a file within the limit is loaded
-taken_within : (file : List ℕ) (ram : ℕ) → length file ≤ image_limit → image_from (Some file) ram ≡ loaded file ram
-taken_within file ram fits = ap (λ b. if b then Err (status.ImageRefused (image.TooLong (length file))) else loaded file ram) (within file fits)
+taken_within : (file : List ℕ) (ram : ℕ) → length file ≤ image_limit → image_from (Some file) ram ≡ image_in file ram
+taken_within file ram fits = ap (λ b. if b then Err (status.ImageRefused (image.TooLong (length file))) else image_in file ram) (within file fits)
 
 -- The files that a command goes by: those that are told, else some.
 
@@ -63,7 +63,7 @@ taken_file None name file took = refl
 taken_file (Some files) name file took = took
 
 taken_image : (held : Option Files) (name file : List ℕ) (ram : ℕ) → Taken held name image_limit (Ok file) → length file ≤ image_limit
-    → image_from (unwrap_or held (each (Some file)) name) ram ≡ loaded file ram
+    → image_from (unwrap_or held (each (Some file)) name) ram ≡ image_in file ram
 taken_image held name file ram took fits = ap (λ (o : Option (List ℕ)). image_from o ram) (taken_file held name file took) ∙ taken_within file ram fits
 
 -- the same left, where the outside was as it is
@@ -84,14 +84,14 @@ part_from old mid new (Some file) same writes = writes_from old.written mid.writ
 
 -- the image was taken, and `solo` did the rest
 pub does_solo : (r : Reading) (old mid new : Outside) (file : List ℕ) (answer : Status) (Fails : Type 0) → Taken old.held r.image image_limit (Ok file) → length file ≤ image_limit → OnlyReads old mid Fails
-    → IsAnswer (answer_of (loaded file r.settings.ram) r.settings r.order) answer
-    → (answer ≡ status.Ended → Leaves (outcome_of (loaded file r.settings.ram) r) mid new)
-    → (answer ≡ status.WriteFault → LeavesPart (outcome_of (loaded file r.settings.ram) r) mid new)
+    → IsAnswer (answer_of (image_in file r.settings.ram) r.settings r.order) answer
+    → (answer ≡ status.Ended → Leaves (outcome_of (image_in file r.settings.ram) r) mid new)
+    → (answer ≡ status.WriteFault → LeavesPart (outcome_of (image_in file r.settings.ram) r) mid new)
     → (answer ≢ status.Ended → answer ≢ status.WriteFault → new.written ≡ mid.written) → Writes mid new r.trace (λ was is. Unit {0})
     → OnlyWrites mid new (answer ≡ status.WriteFault) → answer ≢ status.ReadFault → ((n : ℕ) → answer ≢ status.ImageRefused (image.TooLong n)) → Does r old answer new
 does_solo r old mid new file answer Fails took fits took_only is ended cut nothing others writes unread short =
     let files : Files = unwrap_or old.held (each (Some file)) in
-    let same : image_from (files r.image) r.settings.ram ≡ loaded file r.settings.ram = taken_image old.held r.image file r.settings.ram took fits in
+    let same : image_from (files r.image) r.settings.ram ≡ image_in file r.settings.ram = taken_image old.held r.image file r.settings.ram took fits in
     let Is : Result Loaded Status → Type 0 = λ l. IsAnswer (answer_of l r.settings r.order) answer in
     let Answer : Option (List ℕ) → Type 0 = λ o. Answers o (expected r files) answer in
     let By : Status → Type 0 = λ e. IsAnswer e answer in
@@ -108,14 +108,14 @@ does_solo r old mid new file answer Fails took fits took_only is ended cut nothi
       ended = λ at.
           let left = ended at in
           subst All (sym same) (record {
-            said = says_from old.said mid.said new.said (Said (outcome_of (loaded file r.settings.ram) r).said) took_only.said left.said;
-            file = all_from old mid new (outcome_of (loaded file r.settings.ram) r).file took_only.written left.file;
+            said = says_from old.said mid.said new.said (Said (outcome_of (image_in file r.settings.ram) r).said) took_only.said left.said;
+            file = all_from old mid new (outcome_of (image_in file r.settings.ram) r).file took_only.written left.file;
           });
       cut = λ at.
           let left = cut at in
           subst Part (sym same) (record {
-            said = says_from old.said mid.said new.said (SaidPart (outcome_of (loaded file r.settings.ram) r).said) took_only.said left.said;
-            file = part_from old mid new (outcome_of (loaded file r.settings.ram) r).file took_only.written left.file;
+            said = says_from old.said mid.said new.said (SaidPart (outcome_of (image_in file r.settings.ram) r).said) took_only.said left.said;
+            file = part_from old mid new (outcome_of (image_in file r.settings.ram) r).file took_only.written left.file;
           });
       nothing = λ unended unfailed. nothing unended unfailed ∙ took_only.written;
       others = writes_from old.written mid.written new.written r.trace (λ was is. Unit {0}) took_only.written others;
@@ -178,7 +178,7 @@ long_answers : (file : Option (List ℕ)) (bytes : List ℕ) (n ram : ℕ) (sett
 long_answers file bytes n ram settings order is same is_long =
     let At : Option (List ℕ) → Type 0 = λ o. Answers o (answer_of (image_from o ram) settings order) (status.ImageRefused (image.TooLong n)) in
     let refused : ℕ → Status = λ size. status.ImageRefused (image.TooLong size) in
-    subst At (sym is) (ap refused same ∙ sym (ap (λ (b : Bool). answer_of (if b then Err (refused (length bytes)) else loaded bytes ram) settings order) (beyond n (length bytes) same is_long)))
+    subst At (sym is) (ap refused same ∙ sym (ap (λ (b : Bool). answer_of (if b then Err (refused (length bytes)) else image_in bytes ram) settings order) (beyond n (length bytes) same is_long)))
 
 -- where files aren't told, it has as many bytes as were seen
 taken_long : (held : Option Files) (name : List ℕ) (n ram : ℕ) (settings : Settings) (order : List ℕ) → Taken held name image_limit (Err (fault.TooLong n)) → image_limit < n

@@ -1,3 +1,4 @@
+pub mod Images
 pub mod Doing
 pub mod Told
 pub mod WordsLemmas

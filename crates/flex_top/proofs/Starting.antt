@@ -31,15 +31,15 @@ lawful_few settings lawful = grind (arith, nat_tests)
 lawful_whole : (settings : Settings) → is_lawful settings ≡ true → is_multiple settings.ram mebibyte ≡ true
 lawful_whole settings lawful = grind (arith, nat_tests)
 
-entry_aligned : (ram : ℕ) (image : Loaded) → image_fits ram image ≡ true → is_multiple image.entry 4 ≡ true
+pub entry_aligned : (ram : ℕ) (image : Loaded) → image_fits ram image ≡ true → is_multiple image.entry 4 ≡ true
 entry_aligned ram image fits = grind (arith, nat_tests)
 
 pub starts : (image : Loaded) (settings : Settings) (player : Player) (bank : Bank) → is_lawful settings ≡ true
     → IsStarted player settings image.entry bank
-    → image_fits settings.ram image ≡ true
+    → is_multiple image.entry 4 ≡ true
     → Keeps (setup_of image settings) [] bank
     → IsAt (setup_of image settings) (begin (setup_of image settings)) player
-starts image settings player bank lawful begins fits keeps =
+starts image settings player bank lawful begins aligned keeps =
     let setup = setup_of image settings in
     let Kept : Bank → Type 0 = λ b. Keeps setup [] b in
     let each = λ (h : ℕ) (other : Hart) (below : h < setup.harts).
@@ -48,7 +48,7 @@ starts image settings player bank lawful begins fits keeps =
     let there : IsIn setup (instruction_from (start h image.entry)) hart (progress_at player h) (layout_of settings) settings.budget = record {
       of = record { harts = refl; ram = refl; budget_is = refl; whole = lawful_whole settings lawful };
       stands = begins.harts.each h other below;
-      fit = record { aligned = entry_aligned settings.ram image fits; within = omega arith; reserved = tt };
+      fit = record { aligned = aligned; within = omega arith; reserved = tt };
       reached = ap (node setup (start h image.entry)) (sym (begins.progress.1 h));
       sound = subst Sound (sym (begins.progress.1 h)) tt;
     } in

@@ -1,6 +1,5 @@
 -- What `solo` answers, and what it leaves.
-use Rattle.std.specs.Prelude.{◌≡◌, ℕ, Bool, true, false, ◌&&◌, ◌==◌, if◌then◌else◌, nat_lt, List, [], ◌∷◌, length, Option, None, Some, Result, Ok, Err}
-use Rattle.flex_base.specs.Place.{ram_base}
+use Rattle.std.specs.Prelude.{◌≡◌, ℕ, true, if◌then◌else◌, nat_lt, List, [], length, Option, None, Some, Result, Ok, Err}
 use Rattle.flex_base.specs.Loaded.{Loaded}
 use Rattle.flex_base.specs.Setup.{Setup}
 use Rattle.flex_base.specs.Files.{Files}
@@ -12,28 +11,24 @@ use Rattle.flex_base.specs.Split.{split, Obeys}
 use Rattle.flex_base.specs.Journal.{IsLegal, order_of, console}
 use Rattle.flex_base.specs.declared.event.Event.{Event}
 use Rattle.flex_base.specs.declared.settings.Settings.{Settings}
+use Rattle.image_loader.specs.Loading.{loaded}
+use Rattle.image_loader.specs.declared.fault.ImageFault.{ImageFault}
+use Rattle.image_loader.specs.declared.fault.ImageFault.TheVariants as fault
 use Rattle.flex_top.specs.Trace.{trace_text}
 use Rattle.flex_top.specs.Words.{Reading}
 use Rattle.flex_top.specs.declared.status.Status.{Status}
 use Rattle.flex_top.specs.declared.status.Status.TheVariants as status
-use Rattle.flex_top.specs.declared.status.ImageFault.TheVariants as image
 
 -- Images.
 
--- a raw file stands at the beginning of RAM, which is its entry
-abbrev pub raw : List ℕ → Loaded
-raw file = record { entry = ram_base; parts = (ram_base, file) ∷ [] }
+-- an image, or the refusal of it
+abbrev pub or_refusal : Result Loaded ImageFault → Result Loaded Status
+or_refusal (Ok image) = Ok image
+or_refusal (Err fault) = Err (status.ImageRefused fault)
 
--- the file begins with the bytes 7f 45 4c 46
-abbrev pub is_elf : List ℕ → Bool
-is_elf (a ∷ b ∷ c ∷ d ∷ rest) = (a == 0x7f) && (b == 0x45) && (c == 0x4c) && (d == 0x46)
-is_elf other = false
-
--- the image that a file is in so much RAM, or why it can't be run: ELF files aren't built, and a raw file may be longer
--- than RAM
-abbrev pub loaded : List ℕ → ℕ → Result Loaded Status
-loaded file ram = if is_elf file then Err (status.Unbuilt None)
-    else (if nat_lt ram (length file) then Err (status.ImageRefused (image.SegmentOutsideRam 0)) else Ok (raw file))
+-- the image that a file is in so much RAM, or the refusal by the first fault of the file
+abbrev pub image_in : List ℕ → ℕ → Result Loaded Status
+image_in file ram = or_refusal (loaded file ram)
 
 -- an image file has at most 256 MiB
 abbrev pub image_limit : ℕ
@@ -43,8 +38,8 @@ image_limit = 268435456
 abbrev pub image_from : Option (List ℕ) → ℕ → Result Loaded Status
 image_from None ram = Err status.ReadFault
 image_from (Some file) ram =
-    if nat_lt image_limit (length file) then Err (status.ImageRefused (image.TooLong (length file)))
-    else loaded file ram
+    if nat_lt image_limit (length file) then Err (status.ImageRefused (fault.TooLong (length file)))
+    else image_in file ram
 
 -- Runs.
 
@@ -74,7 +69,7 @@ pub record EndsWhole (setup : Setup) (order : List ℕ) : Type 0 where
 -- a run that comes to what isn't built isn't written
 abbrev pub answer_of_run : Option ℕ → Status
 answer_of_run None = status.Ended
-answer_of_run (Some pc) = status.Unbuilt (Some pc)
+answer_of_run (Some pc) = status.Unbuilt pc
 
 -- the run takes the harts in this order, and then in rounds
 abbrev pub answer_of_setup : Setup → List ℕ → Status

@@ -7,7 +7,7 @@ use Rattle.flex_top.specs.Answer.{Outcome, expected, outcome, image_limit}
 use Rattle.flex_top.specs.Written.{Becomes, BecomesPart}
 use Rattle.flex_top.specs.declared.status.Status.{Status}
 use Rattle.flex_top.specs.declared.status.Status.TheVariants as status
-use Rattle.flex_top.specs.declared.status.ImageFault.TheVariants as image
+use Rattle.image_loader.specs.declared.fault.ImageFault.TheVariants as image
 
 -- the answer is the expected one, unless a fault of the outside or want of memory came before
 abbrev pub IsAnswer : Status → Status → Type 0

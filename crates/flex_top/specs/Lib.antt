@@ -10,5 +10,5 @@ pub mod Play
 pub mod Status
 pub mod Answer
 pub mod Does
-pub mod Refusal
+pub mod Images
 pub mod Ready

@@ -1,9 +1,9 @@
 -- Statuses: the number that the program ends with, and the line that it says.
-use Rattle.std.specs.Prelude.{ℕ, Bool, true, false, if◌then◌else◌, List, [], ◌++◌, codes}
+use Rattle.std.specs.Prelude.{ℕ, Bool, true, false, if◌then◌else◌, List, [], ◌++◌, codes, decimal}
+use Rattle.image_loader.specs.Faults.{fault_number}
+use Rattle.image_loader.specs.declared.fault.ImageFault.{ImageFault}
 use Rattle.flex_top.specs.declared.status.Status.{Status}
 use Rattle.flex_top.specs.declared.status.Status.TheVariants as status
-use Rattle.flex_top.specs.declared.status.ImageFault.{ImageFault}
-use Rattle.flex_top.specs.declared.status.ImageFault.TheVariants as image
 
 abbrev pub status_code : Status → ℕ
 status_code status.Ended = 0
@@ -14,10 +14,9 @@ status_code status.OutOfMemory = 5
 status_code status.WriteFault = 6
 status_code (status.Unbuilt pc) = 10
 
--- a fault of an image, by its number among all that an image can have
+-- the refusal of an image, by its fault's number
 abbrev pub refusal : ImageFault → List ℕ
-refusal (image.SegmentOutsideRam index) = codes "image refused 9"
-refusal (image.TooLong bytes) = codes "image refused 11"
+refusal fault = codes "image refused " ++ decimal (fault_number fault)
 
 -- what a status says
 abbrev pub meaning : Status → List ℕ

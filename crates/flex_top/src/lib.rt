@@ -1,7 +1,7 @@
 //! The commands but `run`: the words, the image, a run on one thread, the trace text and its file.
 //!
 //! `flex_top` does what the words ask for, and tells by its status what came of it. `solo` plays
-//! the harts over a raw image, in a given order and then in rounds, and writes the trace of the run.
+//! the harts over an image, in a given order and then in rounds, and writes the trace of the run.
 #![tactic(auto)]
 
 mod image;
@@ -17,7 +17,8 @@ mod top;
 mod trace_file;
 mod words;
 
-pub use status::{ImageFault, Status, status_code, status_text};
+pub use image_loader::ImageFault;
+pub use status::{Status, status_code, status_text};
 pub use top::flex_top;
 
 #[cfg(test)]

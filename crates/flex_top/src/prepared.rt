@@ -1,6 +1,7 @@
 ghost use Rattle.std.specs.Prelude.{◌≡◌, true, [], map, IfOk};
 ghost use Rattle.flex_base.specs.Limits.{is_lawful};
-ghost use Rattle.flex_base.specs.Loaded.{image_fits};
+ghost use Rattle.flex_base.specs.Loaded.{Loaded, image_fits};
+ghost use Rattle.image_loader.specs.Loading.{IsSameStart};
 ghost use Rattle.flex_top.specs.Answer.{setup_of};
 ghost use Rattle.flex_top.specs.Memory.{Keeps};
 ghost use Rattle.flex_top.specs.Ready.{IsPrepared};
@@ -24,22 +25,23 @@ pub(crate) struct Prepared {
     pub(crate) tail: Tail,
 }
 
-// Makes ready a run of an image, in an order of which each character names a hart. The error is
-// want of memory.
+// Makes ready a run of an image, in an order of which each character names a hart. It is the run of
+// each image with the same start. The error is want of memory.
 pub(crate) fn prepare(
     alloc: Global,
-    image: &Image,
+    image: Image,
     settings: &Settings,
     order: &[u8],
 ) -> Result<Prepared, AllocError>
     requires lawful { is_lawful settings.now ≡ true }
-    requires fits { image_fits settings.now.ram image.now ≡ true }
-    ensures { IfOk result (λ run. IsPrepared (setup_of image.now settings.now) (map hart_of order.now) run) }
+    requires fits { image_fits settings.now.ram image ≡ true }
+    ensures { (start : Loaded) → IsSameStart start image
+        → IfOk result (λ run. IsPrepared (setup_of start settings.now) (map hart_of order.now) run) }
 {
     let pieces = Pieces::new(alloc)?;
     let tail = Tail::new(alloc)?;
     let order = harts_named(alloc, order)?;
-    let lines = bank_of(alloc, image, settings)?;
+    let lines = bank_of(alloc, &image, settings)?;
     let player = Player::start(alloc, settings, image.entry, lines)?;
     Ok(Prepared {
         player,
@@ -53,7 +55,8 @@ pub(crate) fn prepare(
 fn bank_of(alloc: Global, image: &Image, settings: &Settings) -> Result<Lines, AllocError>
     requires lawful { is_lawful settings.now ≡ true }
     requires fits { image_fits settings.now.ram image.now ≡ true }
-    ensures { IfOk result (λ lines. Keeps (setup_of image.now settings.now) [] lines) }
+    ensures { (start : Loaded) → IsSameStart start image.now
+        → IfOk result (λ lines. Keeps (setup_of start settings.now) [] lines) }
 {
     match Lines::new(alloc, image, settings, 1, 0) {
         Ok(lines) => Ok(lines),

@@ -1,7 +1,9 @@
-ghost use Rattle.std.specs.Prelude.{◌≡◌, ◌≤◌, length, IfOk};
+ghost use Rattle.std.specs.Prelude.{◌≡◌, ◌+◌, ◌≤◌, ◌++◌, length, IfOk};
 ghost use Rattle.flex_top.specs.Status.{refusal, meaning, is_ended, status_code, status_text};
 
 use flex_base::Line;
+use image_loader::ImageFault;
+use itoa::Buffer;
 use std::alloc::{AllocError, Global};
 
 /// What a command answers.
@@ -18,17 +20,8 @@ pub enum Status {
     OutOfMemory,
     /// A file couldn't be written.
     WriteFault,
-    /// An image of this kind isn't read yet, or the hart with this `pc` would do what isn't built yet.
-    Unbuilt(Option<u64>),
-}
-
-/// Why an image was refused.
-#[derive(Clone, Copy, Debug, PartialEq, Eq)]
-pub enum ImageFault {
-    /// The segment of this number doesn't lie in RAM. A raw image is segment 0.
-    SegmentOutsideRam(u16),
-    /// The file has this many bytes, more than the limit.
-    TooLong(u64),
+    /// The hart with this `pc` would do what isn't built yet.
+    Unbuilt(u64),
 }
 
 /// The number with which the program ends.
@@ -54,7 +47,7 @@ pub fn status_text(alloc: Global, status: &Status) -> Result<Vec<u8>, AllocError
     let mut line = Line::new();
     if !is_ended(status) {
         line.push(b"flexemu: ");
-        line.push(meaning(status));
+        push_meaning(&mut line, status);
         line.push(b"\n");
     }
     Vec::from_slice(alloc, line.bytes())
@@ -66,35 +59,36 @@ fn is_ended(status: &Status) -> bool
     matches!(status, Status::Ended)
 }
 
-fn meaning(status: &Status) -> &'static [u8]
-    ensures text { result.now ≡ meaning status.now }
-    ensures short { length result.now ≤ 17 }
+// Adds what the status says to the line: 17 bytes at most.
+fn push_meaning(line: &mut Line, status: &Status)
+    requires { length line.old + 17 ≤ 128 }
+    ensures text { line.new ≡ line.old ++ meaning status.now }
+    ensures room { length line.new ≤ length line.old + 17 }
 {
     match status {
-        Status::Ended => b"",
-        Status::Usage => b"usage",
-        Status::ReadFault => b"read fault",
-        Status::ImageRefused(fault) => refusal(*fault),
-        Status::OutOfMemory => b"out of memory",
-        Status::WriteFault => b"write fault",
-        Status::Unbuilt(_) => b"unbuilt",
+        Status::Ended => {}
+        Status::Usage => line.push(b"usage"),
+        Status::ReadFault => line.push(b"read fault"),
+        Status::ImageRefused(fault) => push_refusal(line, *fault),
+        Status::OutOfMemory => line.push(b"out of memory"),
+        Status::WriteFault => line.push(b"write fault"),
+        Status::Unbuilt(_) => line.push(b"unbuilt"),
     }
 }
 
-// The fault, by its number among all faults that an image can have.
-fn refusal(fault: ImageFault) -> &'static [u8]
-    ensures text { result.now ≡ refusal fault }
-    ensures short { length result.now ≤ 17 }
+fn push_refusal(line: &mut Line, fault: ImageFault)
+    requires { length line.old + 17 ≤ 128 }
+    ensures text { line.new ≡ line.old ++ refusal fault }
+    ensures room { length line.new ≤ length line.old + 17 }
 {
-    match fault {
-        ImageFault::SegmentOutsideRam(_) => b"image refused 9",
-        ImageFault::TooLong(_) => b"image refused 11",
-    }
+    line.push(b"image refused ");
+    line.push(Buffer::new().format(fault.number()).as_bytes());
 }
 
 #[cfg(test)]
 mod tests {
     use super::*;
+    use std::process::Abort;
 
     #[test]
     fn says_each_status(rt: HostRuntime) -> Result<(), AllocError> {
@@ -102,25 +96,52 @@ mod tests {
             (Status::Ended, 0, ""),
             (Status::Usage, 1, "flexemu: usage\n"),
             (Status::ReadFault, 2, "flexemu: read fault\n"),
-            (
-                Status::ImageRefused(ImageFault::SegmentOutsideRam(7)),
-                3,
-                "flexemu: image refused 9\n",
-            ),
-            (
-                Status::ImageRefused(ImageFault::TooLong(1)),
-                3,
-                "flexemu: image refused 11\n",
-            ),
             (Status::OutOfMemory, 5, "flexemu: out of memory\n"),
             (Status::WriteFault, 6, "flexemu: write fault\n"),
-            (Status::Unbuilt(None), 10, "flexemu: unbuilt\n"),
-            (Status::Unbuilt(Some(1)), 10, "flexemu: unbuilt\n"),
+            (Status::Unbuilt(1), 10, "flexemu: unbuilt\n"),
         ] {
-            assert_eq!(rt; status_code(&status), code, "the code of {text}");
-            let said = status_text(rt.alloc(), &status)?;
-            assert!(rt; said.as_slice() == text.as_bytes(), "the text of {text}");
+            assert_status(&rt, rt.alloc(), status, code, text)?;
         }
+        Ok(())
+    }
+
+    #[test]
+    fn says_each_fault_of_an_image(rt: HostRuntime) -> Result<(), AllocError> {
+        for (fault, text) in [
+            (ImageFault::Short, "flexemu: image refused 1\n"),
+            (ImageFault::NotElf64Little, "flexemu: image refused 2\n"),
+            (ImageFault::NotExec(1), "flexemu: image refused 3\n"),
+            (ImageFault::NotRiscv(62), "flexemu: image refused 4\n"),
+            (ImageFault::BadHeaderSize, "flexemu: image refused 5\n"),
+            (ImageFault::TableOutside, "flexemu: image refused 6\n"),
+            (
+                ImageFault::SegmentOutsideFile(1),
+                "flexemu: image refused 7\n",
+            ),
+            (ImageFault::FileOverMemory(2), "flexemu: image refused 8\n"),
+            (
+                ImageFault::SegmentOutsideRam(3),
+                "flexemu: image refused 9\n",
+            ),
+            (ImageFault::BadEntry(5), "flexemu: image refused 10\n"),
+            (ImageFault::TooLong(6), "flexemu: image refused 11\n"),
+            (ImageFault::OutOfMemory, "flexemu: image refused 12\n"),
+        ] {
+            assert_status(&rt, rt.alloc(), Status::ImageRefused(fault), 3, text)?;
+        }
+        Ok(())
+    }
+
+    fn assert_status(
+        rt: &impl Abort,
+        alloc: Global,
+        status: Status,
+        code: u8,
+        text: &str,
+    ) -> Result<(), AllocError> {
+        assert_eq!(rt; status_code(&status), code, "the code of {text}");
+        let said = status_text(alloc, &status)?;
+        assert!(rt; said.as_slice() == text.as_bytes(), "the text of {text}");
         Ok(())
     }
 }

@@ -1,3 +1,4 @@
+mod images;
 mod programs;
 
 ghost use Rattle.std.specs.Prelude.{◌≡◌, map, Some, IsSomeAnd, string_bytes};
@@ -147,7 +148,7 @@ fn ends_over_a_steady_outside(rt: HostRuntime) -> Result<(), AllocError> {
     let words = words_of(alloc, "solo other out --ram=1")?;
     assert_eq!(rt;
         run_steadily(alloc, &words, &mut outer),
-        Status::Unbuilt(Some(0x8000_0000))
+        Status::Unbuilt(0x8000_0000)
     );
     Ok(())
 }
@@ -300,10 +301,9 @@ fn answers_by_the_image(rt: HostRuntime) -> Result<(), AllocError> {
             longer.as_slice(),
             Status::ImageRefused(ImageFault::SegmentOutsideRam(0)),
         ),
-        (whole.as_slice(), Status::Unbuilt(Some(0x8000_0000))),
-        (system.as_slice(), Status::Unbuilt(Some(0x8000_0004))),
-        (OUTSIDE.as_slice(), Status::Unbuilt(Some(0x8000_0010))),
-        (b"\x7fELF".as_slice(), Status::Unbuilt(None)),
+        (whole.as_slice(), Status::Unbuilt(0x8000_0000)),
+        (system.as_slice(), Status::Unbuilt(0x8000_0004)),
+        (OUTSIDE.as_slice(), Status::Unbuilt(0x8000_0010)),
     ] {
         assert_image(&rt, alloc, image, status)?;
     }

@@ -1,4 +1,4 @@
-ghost use Rattle.std.specs.Prelude.{◌≡◌, ◌↔◌, List, ℕ, map, Some, None, string_bytes};
+ghost use Rattle.std.specs.Prelude.{◌≡◌, ◌≢◌, ◌↔◌, List, ℕ, map, Some, None, string_bytes};
 ghost use Rattle.flex_base.specs.Setup.{Setup};
 ghost use Rattle.flex_base.specs.EndOfRun.{GoesOn};
 ghost use Rattle.flex_top.specs.Words.{Reading, reading};
@@ -6,9 +6,10 @@ ghost use Rattle.flex_top.specs.Answer.{EndsWhole};
 ghost use Rattle.flex_top.specs.Does.{Does, TellsFaults};
 
 use crate::solo::solo;
-use crate::status::{ImageFault, Status};
+use crate::status::Status;
 use crate::words::read_words;
 use flex_base::{Outer, TakeFault};
+use image_loader::ImageFault;
 use std::alloc::Global;
 
 // An image file has at most 256 MiB.
@@ -16,10 +17,11 @@ const IMAGE_LIMIT: u64 = 268_435_456;
 
 /// Does what the words ask for; the program's name isn't among them.
 ///
-/// `solo IMAGE TRACE`, which options may follow, plays the harts over the raw image of that name, in
-/// the given order and then in rounds, and writes the trace of the run under the other name. No
-/// other file is touched, and nothing is said. After an answer other than `Ended` and `WriteFault`
-/// nothing is written; after `WriteFault` the file is as it was, or the beginning of the trace.
+/// `solo IMAGE TRACE`, which options may follow, plays the harts over the image in the file of that
+/// name, in the given order and then in rounds, and writes the trace of the run under the other
+/// name. No other file is touched, and nothing is said. After an answer other than `Ended` and
+/// `WriteFault` nothing is written; after `WriteFault` the file is as it was, or the beginning of the
+/// trace.
 #[tactic(auto, using(flex_base::proofs::EndOfRun::run_goes_on, crate::proofs::Writing::built_whole))]
 pub fn flex_top<O: Outer>(alloc: Global, words: &[String], outer: &mut O) -> Status
     ensures usage { (result ≡ Status.Usage) ↔ (reading (map string_bytes words.now) ≡ None) }
@@ -27,6 +29,9 @@ pub fn flex_top<O: Outer>(alloc: Global, words: &[String], outer: &mut O) -> Sta
         → Does r (O.outside outer.old) result (O.outside outer.new) }
     ensures idle { reading (map string_bytes words.now) ≡ None → O.outside outer.new ≡ O.outside outer.old }
     ensures faults { TellsFaults (O.outside outer.old) result (O.outside outer.new) }
+
+    // Want of memory is no refusal of the image.
+    ensures memory { result ≢ Status.ImageRefused ImageFault.OutOfMemory }
 
     // Of each run: its journal is legal, obeys the default plan and has ended, where all is built; it
     // goes on until it has ended, and no hart has an event for ever.

@@ -45,7 +45,7 @@ mod tests {
             ),
             (Status::OutOfMemory, 5, "flexemu: out of memory\n"),
             (Status::WriteFault, 6, "flexemu: write fault\n"),
-            (Status::Unbuilt(None), 10, "flexemu: unbuilt\n"),
+            (Status::Unbuilt(1), 10, "flexemu: unbuilt\n"),
         ] {
             let mut stderr = Vec::from_slice(rt.alloc(), b"before\n")?;
             assert_eq!(rt;

@@ -1,22 +1,17 @@
 -- What follows from the first fault of an ELF file.
 use Rattle.std.proofs.Common.{◌≡◌, ℕ, Bool, true, false, ◌&&◌, not, ◌==◌, if◌then◌else◌, List, [], ◌∷◌, ◌++◌, refl, ap, sym, ◌∙◌}
-use Rattle.std.specs.Prelude.{Option, None, Some, Err, flat_map}
+use Rattle.std.specs.Prelude.{Option, None, Some, Err, IfErr, flat_map}
 use Rattle.std.specs.List.{list_all, range_with_len}
 use Rattle.std.proofs.lemmas.List.Folds.{list_all-append}
 use Rattle.flex_base.specs.Word.{is_multiple}
 use Rattle.flex_base.specs.Place.{in_ram}
 use Rattle.flex_base.specs.Loaded.{Loaded, part_fits, image_fits}
-use Rattle.image_loader.specs.Headers.{elf_header, program_header}
-use Rattle.image_loader.specs.Faults.{FaultTest, first_fault, header_tests, segment_tests, table_tests, entry_tests, elf_tests}
-use Rattle.image_loader.specs.Loading.{unless_fault, IsOutcome}
+use Rattle.image_loader.specs.Headers.{is_elf, elf_header, program_header}
+use Rattle.image_loader.specs.Faults.{is_of_file, FaultTest, first_fault, header_tests, segment_tests, table_tests, entry_tests, elf_tests, raw_tests}
+use Rattle.image_loader.specs.Loading.{elf_image, raw_image, unless_fault, loaded, IsOutcome}
 use Rattle.image_loader.proofs.Tables.{no_fault_last}
 use Rattle.image_loader.specs.declared.fault.ImageFault.{ImageFault}
 use Rattle.image_loader.specs.declared.fault.ImageFault.TheVariants as fault
-
--- want of memory is no fault of a file
-abbrev is_of_file : ImageFault → Bool
-is_of_file fault.OutOfMemory = false
-is_of_file other = true
 
 abbrev are_of_file : List FaultTest → Bool
 are_of_file tests = list_all (λ test. is_of_file test.1) tests
@@ -54,6 +49,21 @@ first_of_file ((true, fault) ∷ tests) found all here =
     let same : fault ≡ found = cc in
     ap is_of_file (sym same) ∙ first_true (is_of_file fault) (are_of_file tests) all
 first_of_file ((false, fault) ∷ tests) found all there = first_of_file tests found (second_true (is_of_file fault) (are_of_file tests) all) there
+
+of_raw_file : (file : List ℕ) (ram : ℕ) → are_of_file (raw_tests file ram) ≡ true
+of_raw_file file ram = refl
+
+of_meaning : (tests : List FaultTest) (image : Loaded) (first : Option ImageFault) → first ≡ first_fault tests → are_of_file tests ≡ true → IfErr (unless_fault first image) (λ fault. is_of_file fault ≡ true)
+of_meaning tests image None is all = tt
+of_meaning tests image (Some found) is all = first_of_file tests found all (sym is)
+
+-- what a file is refused for is a fault of the file
+pub refused_of_file : (file : List ℕ) (ram : ℕ) → IfErr (loaded file ram) (λ fault. is_of_file fault ≡ true)
+unfolding loaded
+refused_of_file file ram = elim (is_elf file) as (λ b. IfErr (if b then unless_fault (first_fault (elf_tests file ram)) (elf_image file) else unless_fault (first_fault (raw_tests file ram)) (raw_image file)) (λ fault. is_of_file fault ≡ true)) [
+  | true ↦ of_meaning (elf_tests file ram) (elf_image file) (first_fault (elf_tests file ram)) refl (of_file file ram)
+  | false ↦ of_meaning (raw_tests file ram) (raw_image file) (first_fault (raw_tests file ram)) refl (of_raw_file file ram)
+]
 
 answers : (found : ImageFault) (meaning : Option ImageFault) (image : Loaded) → meaning ≡ Some found → is_of_file found ≡ true → IsOutcome (unless_fault meaning image) (Err found)
 answers fault.OutOfMemory meaning image is named = absurd cc

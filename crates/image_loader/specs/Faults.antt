@@ -1,11 +1,30 @@
 -- What is wrong with an image file: a table of tests, of which the first that finds a fault gives it. Sums don't wrap.
-use Rattle.std.specs.Prelude.{◌≡◌, ℕ, ◌+◌, ◌*◌, Bool, ◌&&◌, not, ◌==◌, nat_lt, if◌then◌else◌, List, [], ◌∷◌, ◌++◌, length, flat_map, Option, None, Some}
+use Rattle.std.specs.Prelude.{◌≡◌, ℕ, ◌+◌, ◌*◌, Bool, ◌&&◌, not, ◌==◌, nat_le, nat_lt, if◌then◌else◌, List, [], ◌∷◌, ◌++◌, length, flat_map, Option, None, Some}
 use Rattle.std.specs.List.{range_with_len}
 use Rattle.flex_base.specs.Word.{is_multiple}
 use Rattle.flex_base.specs.Place.{in_ram}
 use Rattle.image_loader.specs.Headers.{elf_header, program_header, program_header_size}
 use Rattle.image_loader.specs.declared.fault.ImageFault.{ImageFault}
 use Rattle.image_loader.specs.declared.fault.ImageFault.TheVariants as fault
+
+-- the number of a fault in the table of all
+abbrev pub fault_number : ImageFault → ℕ
+fault_number fault.Short = 1
+fault_number fault.NotElf64Little = 2
+fault_number (fault.NotExec found) = 3
+fault_number (fault.NotRiscv found) = 4
+fault_number fault.BadHeaderSize = 5
+fault_number fault.TableOutside = 6
+fault_number (fault.SegmentOutsideFile index) = 7
+fault_number (fault.FileOverMemory index) = 8
+fault_number (fault.SegmentOutsideRam index) = 9
+fault_number (fault.BadEntry entry) = 10
+fault_number (fault.TooLong bytes) = 11
+fault_number fault.OutOfMemory = 12
+
+-- the fault is one of those that a file is tested for, which are neither its length nor want of memory
+abbrev pub is_of_file : ImageFault → Bool
+is_of_file fault = nat_le (fault_number fault) 10
 
 -- a test: whether it finds its fault, and the fault
 abbrev pub FaultTest : Type 0

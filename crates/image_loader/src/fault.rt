@@ -1,3 +1,6 @@
+ghost use Rattle.std.specs.Prelude.{◌≡◌};
+ghost use Rattle.image_loader.specs.Faults.{fault_number};
+
 use thiserror::Error;
 
 /// Why a file is refused as an image.
@@ -43,4 +46,26 @@ pub enum ImageFault {
     /// Memory ran out.
     #[error("out of memory")]
     OutOfMemory,
+}
+
+impl ImageFault {
+    /// The number of the fault among all, in the order above, from 1 on.
+    pub fn number(&self) -> u8
+        ensures { result ≡ fault_number self.now }
+    {
+        match self {
+            ImageFault::Short => 1,
+            ImageFault::NotElf64Little => 2,
+            ImageFault::NotExec(_) => 3,
+            ImageFault::NotRiscv(_) => 4,
+            ImageFault::BadHeaderSize => 5,
+            ImageFault::TableOutside => 6,
+            ImageFault::SegmentOutsideFile(_) => 7,
+            ImageFault::FileOverMemory(_) => 8,
+            ImageFault::SegmentOutsideRam(_) => 9,
+            ImageFault::BadEntry(_) => 10,
+            ImageFault::TooLong(_) => 11,
+            ImageFault::OutOfMemory => 12,
+        }
+    }
 }

@@ -1,7 +1,7 @@
-ghost use Rattle.std.specs.Prelude.{◌≡◌, ℕ, ◌^◌, ◌<◌, true, ◌++◌, IfOk, OnOk};
+ghost use Rattle.std.specs.Prelude.{◌≡◌, ℕ, ◌^◌, ◌<◌, true, ◌++◌, IfOk, IfErr, OnOk};
 ghost use Rattle.flex_base.specs.Loaded.{image_fits};
 ghost use Rattle.image_loader.specs.Headers.{IsHeader};
-ghost use Rattle.image_loader.specs.Faults.{first_fault, IsFaultless, segment_tests, table_tests, elf_tests, raw_tests};
+ghost use Rattle.image_loader.specs.Faults.{is_of_file, first_fault, IsFaultless, segment_tests, table_tests, elf_tests, raw_tests};
 ghost use Rattle.image_loader.specs.Loading.{segment, segments, elf_image, raw_image, unless_fault, loaded, IsOutcome};
 ghost use Rattle.image_loader.specs.Laying.{AreSameBytes, AreInRam};
 
@@ -21,10 +21,13 @@ use std::alloc::{AllocError, Global};
 ///
 /// A fault is the first that is found: those of the ELF header, those of each program header in
 /// their order, and that of the entry. `OutOfMemory` is answered only for a file that has none.
-#[tactic(auto, unfolding(crate::specs::Loading::loaded))]
+#[tactic(auto, unfolding(crate::specs::Loading::loaded), using(crate::proofs::Answering::refused_of_file))]
 pub fn load(alloc: Global, bytes: &[u8], ram: u64) -> Result<Image, ImageFault>
     ensures outcome { IsOutcome (loaded bytes.now ram) result }
     ensures fits { IfOk result (λ image. 0 < ram → image_fits ram image ≡ true) }
+
+    // Of every file: what it is refused for is neither its length nor want of memory.
+    ensures of_file { IfErr (loaded bytes.now ram) (λ fault. is_of_file fault ≡ true) }
 {
     if is_elf(bytes) {
         load_elf(alloc, bytes, ram)

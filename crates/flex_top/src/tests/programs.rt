@@ -53,7 +53,7 @@ fn reaches_both_ends_of_ram(rt: HostRuntime) -> Result<(), Fail> {
     }
     let line = "solo img out --ram=1 --budget=22";
     let (status, _) = run(rt.alloc(), &image, line, &[])?;
-    assert_eq!(rt; status, Status::Unbuilt(Some(0x8000_0054)));
+    assert_eq!(rt; status, Status::Unbuilt(0x8000_0054));
     Ok(())
 }
 
