@@ -1,6 +1,8 @@
 pub mod Doing
 pub mod WordsLemmas
 pub mod HexDigits
+pub mod Digits
+pub mod Pages
 pub mod Banks
 pub mod Playing
 pub mod Rounds
