@@ -56,10 +56,6 @@ grows_appended a b name x p = changes_weaker a.written b.written name (Appended 
 
 -- Pieces.
 
--- what a full piece leaves
-pub filled : (held bytes piece : List ℕ) (left : ℕ) → piece ≡ held ++ take left bytes → piece ++ drop left bytes ≡ held ++ bytes
-filled held bytes piece left full = rw full (append_assoc held (take left bytes) (drop left bytes) ∙ ap (λ t. held ++ t) (take-append-drop left bytes))
-
 part_by : (a b : Option Files) (name piece : List ℕ) → ChangesFile a b name (AppendedPart piece) → (n : ℕ) × ChangesFile a b name (Gains (take n piece))
 part_by None b name piece p = (0, p)
 part_by (Some a) None name piece p = absurd p
@@ -85,6 +81,13 @@ first x rest text whole = rw (← whole) (sym (take-append_seam x rest))
 
 pub passes_none : (a : Outside) (name held : List ℕ) → Passes a a name held held []
 passes_none a name held = record { added = []; grows = none_changes a.written name; whole = sym (append-nil held) }
+
+-- what was put is held before a piece is written
+pub passes_put : (a b : Outside) (name held put held' bytes : List ℕ) → put ≡ held ++ bytes → Passes a b name put held' [] → Passes a b name held held' bytes
+passes_put a b name held put held' bytes is p = record { added = p.added; grows = p.grows; whole = p.whole ∙ append-nil put ∙ is }
+
+pub part_put : (a b : Outside) (name held put bytes : List ℕ) → put ≡ held ++ bytes → PassesPart a b name put [] → PassesPart a b name held bytes
+part_put a b name held put bytes is p = record { added = p.added; rest = p.rest; grows = p.grows; whole = p.whole ∙ append-nil put ∙ is }
 
 -- one text after another
 pub passes_on : (a b c : Outside) (name held held' held'' x y : List ℕ) → Passes a b name held held' x → Passes b c name held' held'' y → Passes a c name held held'' (x ++ y)

@@ -3,6 +3,8 @@ pub mod Doing
 pub mod Told
 pub mod WordsLemmas
 pub mod HexDigits
+pub mod Digits
+pub mod Pages
 pub mod Banks
 pub mod Playing
 pub mod Rounds

@@ -1,3 +1,6 @@
+ghost use Rattle.std.specs.Prelude.{◌≡◌, length, IfOk};
+
+use crate::text::Put;
 use flex_base::{Failed, Outer};
 use std::alloc::{AllocError, Global};
 use std::marker::Model;
@@ -5,34 +8,61 @@ use std::marker::Model;
 // How many bytes a piece has, but for the last one.
 const PIECE: usize = 65_536;
 
-/// The bytes of a text that wait to be written, less than a piece. Its memory is taken when it is
-/// made.
+// How many bytes a line has at most.
+const LINE: usize = 128;
+
+/// The bytes of a text that wait to be written: at most a piece, and a line that goes past it. Its
+/// memory is taken when it is made.
 #[derive(Drop)]
 pub struct Pieces {
     held: Vec<u8>,
+    end: usize,
 }
 
 impl Model for Pieces {
-    ghost use Rattle.std.specs.Prelude.{ℕ, ◌≤◌, ◌<◌, List, vec_len, vec_capacity};
+    ghost use Rattle.std.specs.Prelude.{ℕ, ◌≡◌, ◌≤◌, List, take, vec_len};
 
     ghost Value = { List ℕ };
 
-    ghost view = { λ p. p.held.items };
+    ghost view = { λ p. take p.end p.held.items };
 
-    ghost invariant = { λ p. (65536 ≤ vec_capacity p.held) × (vec_len p.held < 65536) };
+    ghost invariant = { λ p. (vec_len p.held ≡ 65664) × (p.end ≤ 65664) };
+}
+
+impl Put for Pieces {
+    ghost use Rattle.std.specs.Prelude.{ℕ, List};
+
+    ghost text = { λ pieces. pieces };
+
+    ghost room = { 65664 };
+
+    #[inline(always)]
+    fn put(&mut self, bytes: &[u8]) {
+        let end = self.end + bytes.len();
+        self.held[self.end..end].copy_from_slice(bytes);
+        self.end = end;
+    }
+
+    #[inline(always)]
+    fn put_first(&mut self, bytes: &[u8], count: usize) {
+        let from = self.end;
+        self.held[from..from + 16].copy_from_slice(&bytes[..16]);
+        self.end = from + count;
+    }
 }
 
 impl Pieces {
-    ghost use Rattle.std.specs.Prelude.{◌≡◌, ◌≤◌, [], length, IfOk, OnOk, OnErr, IsErr};
+    ghost use Rattle.std.specs.Prelude.{◌≡◌, ◌≤◌, ◌<◌, [], length, IfOk, OnOk, OnErr, IsErr};
     ghost use Rattle.flex_base.specs.Outside.{OnlyWrites};
     ghost use Rattle.flex_top.specs.Written.{Grows, Passes, PassesPart};
 
-    /// Takes the memory for a piece. The error is want of it.
+    /// Takes the memory for a piece and a line. The error is want of it.
     pub fn new(alloc: Global) -> Result<Pieces, AllocError>
         ensures { IfOk result (λ pieces. pieces ≡ []) }
     {
         Ok(Pieces {
-            held: Vec::with_capacity(alloc, PIECE)?,
+            held: zeros(alloc, PIECE + LINE)?,
+            end: 0,
         })
     }
 
@@ -40,35 +70,41 @@ impl Pieces {
     pub fn clear(&mut self)
         ensures { self.new ≡ [] }
     {
-        self.held.clear();
+        self.end = 0;
     }
 
-    /// Adds bytes to the text, and writes a piece to the file where one is full. Where that fails,
-    /// the file has gained the first of the bytes that waited and the new ones.
+    /// Writes a piece to the file where one is full, and keeps what goes past it. Where that fails,
+    /// the file has gained the first of the bytes that waited.
     #[inline(always)]
-    pub fn add<O: Outer>(&mut self, outer: &mut O, name: &str, bytes: &[u8]) -> Result<(), Failed>
-        requires { length bytes.now ≤ 65536 }
+    pub fn write_full<O: Outer>(&mut self, outer: &mut O, name: &str) -> Result<(), Failed>
         ensures ok { OnOk result (Passes (O.outside outer.old) (O.outside outer.new) name.now
-            self.old self.new bytes.now) }
-        ensures err { OnErr result (PassesPart (O.outside outer.old) (O.outside outer.new) name.now
-            self.old bytes.now) }
+            self.old self.new []) }
+        ensures err { OnErr result (PassesPart (O.outside outer.old) (O.outside outer.new) name.now self.old []) }
+        ensures room { OnOk result (length self.new < 65536) }
         ensures frame { OnlyWrites (O.outside outer.old) (O.outside outer.new) (IsErr result) }
     {
-        let left = PIECE - self.held.len();
-        if bytes.len() < left {
-            self.held.extend_from_slice(bytes).unwrap();
+        if self.end < PIECE {
             return Ok(());
         }
-        self.held.extend_from_slice(&bytes[..left]).unwrap();
-        match outer.add(name, &self.held) {
+        self.write_piece(outer, name)
+    }
+
+    #[cold]
+    fn write_piece<O: Outer>(&mut self, outer: &mut O, name: &str) -> Result<(), Failed>
+        requires { 65536 ≤ length self.old }
+        ensures ok { OnOk result (Passes (O.outside outer.old) (O.outside outer.new) name.now
+            self.old self.new []) }
+        ensures err { OnErr result (PassesPart (O.outside outer.old) (O.outside outer.new) name.now self.old []) }
+        ensures room { OnOk result (length self.new < 65536) }
+        ensures frame { OnlyWrites (O.outside outer.old) (O.outside outer.new) (IsErr result) }
+    {
+        match outer.add(name, &self.held[..PIECE]) {
             Ok(()) => {}
-            Err(failed) => {
-                self.held.clear();
-                return Err(failed);
-            }
+            Err(failed) => return Err(failed),
         }
-        self.held.clear();
-        self.held.extend_from_slice(&bytes[left..]).unwrap();
+        let past = self.end - PIECE;
+        self.held.copy_within(PIECE..self.end, 0);
+        self.end = past;
         Ok(())
     }
 
@@ -80,13 +116,19 @@ impl Pieces {
         ensures err { OnErr result (PassesPart (O.outside outer.old) (O.outside outer.new) name.now self.old []) }
         ensures frame { OnlyWrites (O.outside outer.old) (O.outside outer.new) (IsErr result) }
     {
-        if self.held.is_empty() {
+        if self.end == 0 {
             return Ok(());
         }
-        let written = outer.add(name, &self.held);
-        self.held.clear();
+        let written = outer.add(name, &self.held[..self.end]);
+        self.end = 0;
         written
     }
+}
+
+fn zeros(alloc: Global, size: usize) -> Result<Vec<u8>, AllocError>
+    ensures { IfOk result (λ bytes. length bytes.items ≡ size) }
+{
+    vec![in alloc; 0; size]
 }
 
 #[cfg(test)]

@@ -3,14 +3,17 @@
 mod access;
 mod event;
 mod header;
+mod number;
 mod put;
 mod tail;
 mod tail_text;
 
-pub use event::event_line;
-pub use header::header_line;
+pub use event::put_event;
+pub use header::put_header;
+pub use number::Number;
+pub use put::Put;
 pub use tail::Tail;
-pub use tail_text::{TailLine, tail_line};
+pub use tail_text::{TailLine, put_tail_line};
 
 #[cfg(test)]
 mod tests;

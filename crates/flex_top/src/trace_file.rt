@@ -1,42 +1,14 @@
-ghost use Rattle.std.specs.Prelude.{◌≡◌, ℕ, List, OnOk, OnErr, IsErr};
+ghost use Rattle.std.specs.Prelude.{◌≡◌, ◌<◌, ℕ, List, OnOk, OnErr, IsErr, length};
 ghost use Rattle.std.specs.List.{flat_map};
 ghost use Rattle.flex_base.specs.Outside.{OnlyWrites, Writes};
+ghost use Rattle.flex_top.specs.EventText.{event_text};
+ghost use Rattle.flex_top.specs.TailText.{tail_line_text};
 ghost use Rattle.flex_top.specs.Trace.{whole_text};
 ghost use Rattle.flex_top.specs.Written.{Passes, PassesPart, Becomes, BecomesPart};
 
 use crate::pieces::Pieces;
-use crate::text::{TailLine, event_line, header_line, tail_line};
-use flex_base::{Event, Failed, Line, Outer, Settings};
-
-/// What is written as a line of its own.
-trait AsLine {
-    /// The text of the line.
-    ghost text: { Self → List ℕ };
-
-    /// Makes this the text of the line.
-    fn write_line(&self, into: &mut Line)
-        ensures { into.new ≡ text self.now };
-}
-
-impl AsLine for Event {
-    ghost use Rattle.flex_top.specs.EventText.{event_text};
-
-    ghost text = { event_text };
-
-    fn write_line(&self, into: &mut Line) {
-        event_line(self, into);
-    }
-}
-
-impl AsLine for TailLine {
-    ghost use Rattle.flex_top.specs.TailText.{tail_line_text};
-
-    ghost text = { tail_line_text };
-
-    fn write_line(&self, into: &mut Line) {
-        tail_line(self, into);
-    }
-}
+use crate::text::{Number, TailLine, put_event, put_header, put_tail_line};
+use flex_base::{Event, Failed, Outer, Settings};
 
 /// Makes the file of this name the text of a trace, written in pieces. It takes no memory.
 ///
@@ -58,31 +30,51 @@ pub fn write_trace<O: Outer>(
 {
     outer.start(name)?;
     pieces.clear();
-    let mut line = Line::new();
-    header_line(settings, &mut line);
-    pieces.add(outer, name, line.bytes())?;
-    add_lines(outer, name, pieces, events)?;
-    add_lines(outer, name, pieces, tail)?;
+    put_header(settings, pieces);
+    add_events(outer, name, pieces, events)?;
+    add_tail(outer, name, pieces, tail)?;
     pieces.flush(outer, name)?;
     Ok(())
 }
 
-fn add_lines<O: Outer, L: AsLine>(
+fn add_events<O: Outer>(
     outer: &mut O,
     name: &str,
     pieces: &mut Pieces,
-    lines: &[L],
+    events: &[Event],
 ) -> Result<(), Failed>
+    requires { length pieces.old < 65536 }
     ensures ok { OnOk result (Passes (O.outside outer.old) (O.outside outer.new) name.now
-        pieces.old pieces.new (flat_map L.text lines.now)) }
+        pieces.old pieces.new (flat_map event_text events.now)) }
     ensures err { OnErr result (PassesPart (O.outside outer.old) (O.outside outer.new) name.now
-        pieces.old (flat_map L.text lines.now)) }
+        pieces.old (flat_map event_text events.now)) }
+    ensures room { OnOk result (length pieces.new < 65536) }
     ensures frame { OnlyWrites (O.outside outer.old) (O.outside outer.new) (IsErr result) }
 {
-    let mut line = Line::new();
-    for item in lines {
-        item.write_line(&mut line);
-        pieces.add(outer, name, line.bytes())?;
+    let mut number = Number::of(0);
+    for event in events {
+        put_event(event, &mut number, pieces);
+        pieces.write_full(outer, name)?;
+    }
+    Ok(())
+}
+
+fn add_tail<O: Outer>(
+    outer: &mut O,
+    name: &str,
+    pieces: &mut Pieces,
+    tail: &[TailLine],
+) -> Result<(), Failed>
+    requires { length pieces.old < 65536 }
+    ensures ok { OnOk result (Passes (O.outside outer.old) (O.outside outer.new) name.now
+        pieces.old pieces.new (flat_map tail_line_text tail.now)) }
+    ensures err { OnErr result (PassesPart (O.outside outer.old) (O.outside outer.new) name.now
+        pieces.old (flat_map tail_line_text tail.now)) }
+    ensures frame { OnlyWrites (O.outside outer.old) (O.outside outer.new) (IsErr result) }
+{
+    for line in tail {
+        put_tail_line(line, pieces);
+        pieces.write_full(outer, name)?;
     }
     Ok(())
 }

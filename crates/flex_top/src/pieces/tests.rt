@@ -6,7 +6,8 @@ use std::test::Fail;
 fn add_lines(pieces: &mut Pieces, outer: &mut MemoryOuter) -> Result<(), Failed> {
     for n in 0..700u32 {
         let line = [(n % 251) as u8; 100];
-        pieces.add(outer, "out", line.as_slice())?;
+        pieces.put(line.as_slice());
+        pieces.write_full(outer, "out")?;
     }
     pieces.flush(outer, "out")
 }

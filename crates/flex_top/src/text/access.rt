@@ -4,157 +4,160 @@ ghost use Rattle.std.specs.Prelude.{◌≡◌, ◌+◌, ◌≤◌, ◌++◌, len
 ghost use Rattle.flex_base.specs.declared.access.Access.TheVariants as acc;
 ghost use Rattle.flex_top.specs.EventText.{amo_text, fetch_text, pte_text, moved_text, lines_text, access_text};
 
-use crate::text::put::{put, put_digits, put_flag, put_hex, put_number, put_span};
-use flex_base::{Access, AmoOp, Line, Reply};
+use crate::text::put::{Put, put_digits, put_flag, put_hex, put_number, put_span};
+use flex_base::{Access, AmoOp, Reply};
 
-pub(crate) fn put_access(line: &mut Line, access: &Access, reply: &Reply)
-    requires { length line.old + 63 ≤ 128 }
-    ensures text { line.new ≡ line.old ++ access_text access.now reply.now }
-    ensures room { length line.new ≤ length line.old + 63 }
+#[inline(always)]
+pub(crate) fn put_access<P: Put>(into: &mut P, access: &Access, reply: &Reply)
+    requires { length (P.text into.old) + 63 ≤ P.room }
+    ensures text { P.text into.new ≡ P.text into.old ++ access_text access.now reply.now }
+    ensures room { length (P.text into.new) ≤ length (P.text into.old) + 63 }
 {
     match access {
-        Access::Fetch { address } => put_fetch(line, *address, reply.value),
-        Access::Pte { address } => put_pte(line, *address, reply.value),
-        Access::Read { address, width } => put_moved(line, b"read ", *address, *width, reply.value),
+        Access::Fetch { address } => put_fetch(into, *address, reply.value),
+        Access::Pte { address } => put_pte(into, *address, reply.value),
+        Access::Read { address, width } => put_moved(into, b"read ", *address, *width, reply.value),
         Access::Write {
             address,
             width,
             value,
-        } => { put_moved(line, b"write ", *address, *width, *value) }
-        Access::Lr { address, width } => put_moved(line, b"lr ", *address, *width, reply.value),
+        } => { put_moved(into, b"write ", *address, *width, *value) }
+        Access::Lr { address, width } => put_moved(into, b"lr ", *address, *width, reply.value),
         Access::Sc {
             address,
             width,
             value,
-        } => put_sc(line, *address, *width, *value, reply),
+        } => put_sc(into, *address, *width, *value, reply),
         Access::Amo {
             op,
             address,
             width,
             value,
-        } => { put_amo(line, *op, *address, *width, *value, reply) }
+        } => { put_amo(into, *op, *address, *width, *value, reply) }
         Access::DevRead { address, width } => {
-            put_moved(line, b"devread ", *address, *width, reply.value)
+            put_moved(into, b"devread ", *address, *width, reply.value)
         }
         Access::DevWrite {
             address,
             width,
             value,
-        } => { put_moved(line, b"devwrite ", *address, *width, *value) }
-        Access::Pulse { tick } => put_pulse(line, *tick, reply),
-        Access::Wait { mie } => put_wait(line, *mie, reply),
-        Access::Retire => put(line, b"retire"),
+        } => { put_moved(into, b"devwrite ", *address, *width, *value) }
+        Access::Pulse { tick } => put_pulse(into, *tick, reply),
+        Access::Wait { mie } => put_wait(into, *mie, reply),
+        Access::Retire => into.put(b"retire"),
         Access::Time => {
-            put(line, b"time ");
-            put_hex(line, reply.value);
+            into.put(b"time ");
+            put_hex(into, reply.value);
         }
     }
 }
 
-fn put_fetch(line: &mut Line, address: u64, word: u64)
-    requires { length line.old + 31 ≤ 128 }
-    ensures text { line.new ≡ line.old ++ fetch_text address word }
-    ensures room { length line.new ≤ length line.old + 31 }
+#[inline(always)]
+fn put_fetch<P: Put>(into: &mut P, address: u64, word: u64)
+    requires { length (P.text into.old) + 31 ≤ P.room }
+    ensures text { P.text into.new ≡ P.text into.old ++ fetch_text address word }
+    ensures room { length (P.text into.new) ≤ length (P.text into.old) + 31 }
 {
-    put(line, b"fetch ");
-    put_hex(line, address);
-    put(line, b" ");
-    put_digits(line, 8, word);
+    into.put(b"fetch ");
+    put_hex(into, address);
+    into.put(b" ");
+    put_digits(into, 8, word);
 }
 
-fn put_pte(line: &mut Line, address: u64, entry: u64)
-    requires { length line.old + 37 ≤ 128 }
-    ensures text { line.new ≡ line.old ++ pte_text address entry }
-    ensures room { length line.new ≤ length line.old + 37 }
+fn put_pte<P: Put>(into: &mut P, address: u64, entry: u64)
+    requires { length (P.text into.old) + 37 ≤ P.room }
+    ensures text { P.text into.new ≡ P.text into.old ++ pte_text address entry }
+    ensures room { length (P.text into.new) ≤ length (P.text into.old) + 37 }
 {
-    put(line, b"pte ");
-    put_hex(line, address);
-    put(line, b" ");
-    put_hex(line, entry);
+    into.put(b"pte ");
+    put_hex(into, address);
+    into.put(b" ");
+    put_hex(into, entry);
 }
 
 // A value, and where it was read or written.
-fn put_moved(line: &mut Line, name: &[u8], address: u64, width: u8, value: u64)
-    requires { length line.old + length name.now + 37 ≤ 128 }
-    ensures text { line.new ≡ line.old ++ moved_text name.now address width value }
-    ensures room { length line.new ≤ length line.old + length name.now + 37 }
+#[inline(always)]
+fn put_moved<P: Put>(into: &mut P, name: &[u8], address: u64, width: u8, value: u64)
+    requires { length (P.text into.old) + length name.now + 37 ≤ P.room }
+    ensures text { P.text into.new ≡ P.text into.old ++ moved_text name.now address width value }
+    ensures room { length (P.text into.new) ≤ length (P.text into.old) + length name.now + 37 }
 {
-    put(line, name);
-    put_span(line, address, width);
-    put(line, b" ");
-    put_hex(line, value);
+    into.put(name);
+    put_span(into, address, width);
+    into.put(b" ");
+    put_hex(into, value);
 }
 
-fn put_sc(line: &mut Line, address: u64, width: u8, value: u64, reply: &Reply)
-    requires { length line.old + 61 ≤ 128 }
-    ensures text { line.new ≡ line.old ++ access_text (acc.Sc address width value) reply.now }
-    ensures room { length line.new ≤ length line.old + 61 }
+fn put_sc<P: Put>(into: &mut P, address: u64, width: u8, value: u64, reply: &Reply)
+    requires { length (P.text into.old) + 61 ≤ P.room }
+    ensures text { P.text into.new ≡ P.text into.old ++ access_text (acc.Sc address width value) reply.now }
+    ensures room { length (P.text into.new) ≤ length (P.text into.old) + 61 }
 {
-    put_moved(line, b"sc ", address, width, value);
-    put(line, b" ");
-    put_number(line, reply.value);
+    put_moved(into, b"sc ", address, width, value);
+    into.put(b" ");
+    put_number(into, reply.value);
 }
 
-fn put_amo(line: &mut Line, op: AmoOp, address: u64, width: u8, value: u64, reply: &Reply)
-    requires { length line.old + 63 ≤ 128 }
-    ensures text { line.new ≡ line.old ++ access_text (acc.Amo op address width value) reply.now }
-    ensures room { length line.new ≤ length line.old + 63 }
+fn put_amo<P: Put>(into: &mut P, op: AmoOp, address: u64, width: u8, value: u64, reply: &Reply)
+    requires { length (P.text into.old) + 63 ≤ P.room }
+    ensures text { P.text into.new ≡ P.text into.old ++ access_text (acc.Amo op address width value) reply.now }
+    ensures room { length (P.text into.new) ≤ length (P.text into.old) + 63 }
 {
-    put(line, b"amo ");
-    put_operation(line, op);
-    put_moved(line, b" ", address, width, value);
-    put(line, b" ");
-    put_hex(line, reply.value);
+    into.put(b"amo ");
+    put_operation(into, op);
+    put_moved(into, b" ", address, width, value);
+    into.put(b" ");
+    put_hex(into, reply.value);
 }
 
-fn put_pulse(line: &mut Line, tick: bool, reply: &Reply)
-    requires { length line.old + 47 ≤ 128 }
-    ensures text { line.new ≡ line.old ++ access_text (acc.Pulse tick) reply.now }
-    ensures room { length line.new ≤ length line.old + 47 }
+fn put_pulse<P: Put>(into: &mut P, tick: bool, reply: &Reply)
+    requires { length (P.text into.old) + 47 ≤ P.room }
+    ensures text { P.text into.new ≡ P.text into.old ++ access_text (acc.Pulse tick) reply.now }
+    ensures room { length (P.text into.new) ≤ length (P.text into.old) + 47 }
 {
-    put(line, b"pulse ");
-    put_flag(line, tick);
-    put_lines(line, reply);
+    into.put(b"pulse ");
+    put_flag(into, tick);
+    put_lines(into, reply);
 }
 
-fn put_wait(line: &mut Line, mie: u64, reply: &Reply)
-    requires { length line.old + 61 ≤ 128 }
-    ensures text { line.new ≡ line.old ++ access_text (acc.Wait mie) reply.now }
-    ensures room { length line.new ≤ length line.old + 61 }
+fn put_wait<P: Put>(into: &mut P, mie: u64, reply: &Reply)
+    requires { length (P.text into.old) + 61 ≤ P.room }
+    ensures text { P.text into.new ≡ P.text into.old ++ access_text (acc.Wait mie) reply.now }
+    ensures room { length (P.text into.new) ≤ length (P.text into.old) + 61 }
 {
-    put(line, b"wait ");
-    put_hex(line, mie);
-    put_lines(line, reply);
+    into.put(b"wait ");
+    put_hex(into, mie);
+    put_lines(into, reply);
 }
 
 // What a pulse or a wait was told: the lines, and whether the wait goes on and the run stops.
-fn put_lines(line: &mut Line, reply: &Reply)
-    requires { length line.old + 40 ≤ 128 }
-    ensures text { line.new ≡ line.old ++ lines_text reply.now }
-    ensures room { length line.new ≤ length line.old + 40 }
+fn put_lines<P: Put>(into: &mut P, reply: &Reply)
+    requires { length (P.text into.old) + 40 ≤ P.room }
+    ensures text { P.text into.new ≡ P.text into.old ++ lines_text reply.now }
+    ensures room { length (P.text into.new) ≤ length (P.text into.old) + 40 }
 {
-    put(line, b" ");
-    put_hex(line, reply.lines);
-    put(line, b" ");
-    put_number(line, reply.value);
-    put(line, b" ");
-    put_flag(line, reply.stop);
+    into.put(b" ");
+    put_hex(into, reply.lines);
+    into.put(b" ");
+    put_number(into, reply.value);
+    into.put(b" ");
+    put_flag(into, reply.stop);
 }
 
-fn put_operation(line: &mut Line, op: AmoOp)
-    requires { length line.old + 4 ≤ 128 }
-    ensures text { line.new ≡ line.old ++ amo_text op }
-    ensures room { length line.new ≤ length line.old + 4 }
+fn put_operation<P: Put>(into: &mut P, op: AmoOp)
+    requires { length (P.text into.old) + 4 ≤ P.room }
+    ensures text { P.text into.new ≡ P.text into.old ++ amo_text op }
+    ensures room { length (P.text into.new) ≤ length (P.text into.old) + 4 }
 {
     match op {
-        AmoOp::Swap => put(line, b"swap"),
-        AmoOp::Add => put(line, b"add"),
-        AmoOp::Xor => put(line, b"xor"),
-        AmoOp::And => put(line, b"and"),
-        AmoOp::Or => put(line, b"or"),
-        AmoOp::Min => put(line, b"min"),
-        AmoOp::Max => put(line, b"max"),
-        AmoOp::Minu => put(line, b"minu"),
-        AmoOp::Maxu => put(line, b"maxu"),
+        AmoOp::Swap => into.put(b"swap"),
+        AmoOp::Add => into.put(b"add"),
+        AmoOp::Xor => into.put(b"xor"),
+        AmoOp::And => into.put(b"and"),
+        AmoOp::Or => into.put(b"or"),
+        AmoOp::Min => into.put(b"min"),
+        AmoOp::Max => into.put(b"max"),
+        AmoOp::Minu => into.put(b"minu"),
+        AmoOp::Maxu => into.put(b"maxu"),
     }
 }

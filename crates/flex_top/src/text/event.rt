@@ -1,103 +1,128 @@
-ghost use Rattle.std.specs.Prelude.{◌≡◌, ◌+◌, ◌≤◌, ◌++◌, length};
+ghost use Rattle.std.specs.Prelude.{◌≡◌, ◌+◌, ◌≤◌, ◌<◌, ◌++◌, ◌∷◌, [], length, codes, decimal};
 ghost use Rattle.flex_top.specs.EventText.{engine_text, class_text, outcome_text, end_text, what_text, event_text};
 
 use crate::text::access::put_access;
-use crate::text::put::{put, put_hex, put_number, put_small};
-use flex_base::{Class, EndPart, Engine, Event, Line, What};
+use crate::text::number::Number;
+use crate::text::put::{Put, put_hex, put_number, put_small};
+use flex_base::{Class, EndPart, Engine, Event, HartId, What};
 
-/// Makes this the line of an event. It has at most 111 bytes.
+/// Puts the line of an event. Where the number that was put before is the one before, it is quicker.
 #[tactic(auto, unfolding(crate::specs::EventText::event_text))]
-pub fn event_line(event: &Event, into: &mut Line)
-    ensures { into.new ≡ event_text event.now }
+#[inline(always)]
+pub fn put_event<P: Put>(event: &Event, number: &mut Number, into: &mut P)
+    requires { length (P.text into.old) + 111 ≤ P.room }
+    ensures text { P.text into.new ≡ P.text into.old ++ event_text event.now }
+    ensures room { length (P.text into.new) ≤ length (P.text into.old) + 111 }
 {
-    into.clear();
-    put_number(into, event.number);
-    put(into, b" ");
-    put_small(into, event.hart.0);
-    put(into, b" ");
-    put_engine(into, event.engine);
-    put(into, b" ");
+    number.go_to(event.number);
+    number.put_digits(into);
+    put_holder(into, event.hart, event.engine);
     put_what(into, &event.what);
-    put(into, b"\n");
+    into.put(b"\n");
 }
 
-fn put_what(line: &mut Line, happened: &What)
-    requires { length line.old + 83 ≤ 128 }
-    ensures text { line.new ≡ line.old ++ what_text happened.now }
-    ensures room { length line.new ≤ length line.old + 83 }
+// The hart and the engine that holds it, with a space around each.
+#[inline(always)]
+fn put_holder<P: Put>(into: &mut P, hart: HartId, engine: Engine)
+    requires { length (P.text into.old) + 7 ≤ P.room }
+    ensures text { P.text into.new
+        ≡ P.text into.old ++ codes " " ++ decimal hart.0 ++ codes " " ++ engine_text engine ++ codes " " }
+    ensures room { length (P.text into.new) ≤ length (P.text into.old) + 7 }
+{
+    into.put(b" ");
+    put_small(into, hart.0);
+    into.put(&[b' ', letter_of(engine), b' ']);
+}
+
+#[inline(always)]
+fn put_what<P: Put>(into: &mut P, happened: &What)
+    requires { length (P.text into.old) + 83 ≤ P.room }
+    ensures text { P.text into.new ≡ P.text into.old ++ what_text happened.now }
+    ensures room { length (P.text into.new) ≤ length (P.text into.old) + 83 }
 {
     match happened {
-        What::Acc(access, reply) => put_access(line, access, reply),
-        What::End(part) => put_end(line, part),
+        What::Acc(access, reply) => put_access(into, access, reply),
+        What::End(part) => put_end(into, part),
         What::Handover(to) => {
-            put(line, b"to ");
-            put_engine(line, *to);
+            into.put(b"to ");
+            put_engine(into, *to);
         }
     }
 }
 
-fn put_engine(line: &mut Line, engine: Engine)
-    requires { length line.old + 1 ≤ 128 }
-    ensures text { line.new ≡ line.old ++ engine_text engine }
-    ensures room { length line.new ≡ length line.old + 1 }
+#[inline(always)]
+fn put_engine<P: Put>(into: &mut P, engine: Engine)
+    requires { length (P.text into.old) + 1 ≤ P.room }
+    ensures text { P.text into.new ≡ P.text into.old ++ engine_text engine }
+    ensures room { length (P.text into.new) ≡ length (P.text into.old) + 1 }
+{
+    into.put(&[letter_of(engine)]);
+}
+
+#[inline(always)]
+fn letter_of(engine: Engine) -> u8
+    ensures { result ∷ [] ≡ engine_text engine }
 {
     match engine {
-        Engine::Pipe => put(line, b"p"),
-        Engine::Kernel => put(line, b"k"),
-        Engine::Host => put(line, b"h"),
+        Engine::Pipe => b'p',
+        Engine::Kernel => b'k',
+        Engine::Host => b'h',
     }
 }
 
-fn put_end(line: &mut Line, part: &EndPart)
-    requires { length line.old + 83 ≤ 128 }
-    ensures text { line.new ≡ line.old ++ end_text part.now }
-    ensures room { length line.new ≤ length line.old + 83 }
+#[inline(always)]
+fn put_end<P: Put>(into: &mut P, part: &EndPart)
+    requires { length (P.text into.old) + 83 ≤ P.room }
+    ensures text { P.text into.new ≡ P.text into.old ++ end_text part.now }
+    ensures room { length (P.text into.new) ≤ length (P.text into.old) + 83 }
 {
-    put(line, b"end ");
-    put_class(line, part.class);
-    put(line, b" ");
-    put_hex(line, part.pc);
-    put(line, b" ");
-    put_hex(line, part.next);
-    put(line, b" ");
-    put_outcome(line, part.class, part.first, part.second);
+    into.put(b"end ");
+    put_class(into, part.class);
+    into.put(b" ");
+    put_hex(into, part.pc);
+    into.put(b" ");
+    put_hex(into, part.next);
+    into.put(b" ");
+    put_outcome(into, part.class, part.first, part.second);
 }
 
-fn put_outcome(line: &mut Line, class: Class, first: u64, second: u64)
-    requires { length line.old + 38 ≤ 128 }
-    ensures text { line.new ≡ line.old ++ outcome_text class first second }
-    ensures room { length line.new ≤ length line.old + 38 }
+#[inline(always)]
+fn put_outcome<P: Put>(into: &mut P, class: Class, first: u64, second: u64)
+    requires { length (P.text into.old) + 38 ≤ P.room }
+    ensures text { P.text into.new ≡ P.text into.old ++ outcome_text class first second }
+    ensures room { length (P.text into.new) ≤ length (P.text into.old) + 38 }
 {
     match class {
-        Class::Trap => put_hex(line, first),
+        Class::Trap => put_hex(into, first),
         _ => {
-            put(line, b"x");
-            put_number(line, first);
+            into.put(b"x");
+            put_number(into, first);
         }
     }
-    put(line, b" ");
-    put_hex(line, second);
+    into.put(b" ");
+    put_hex(into, second);
 }
 
-fn put_class(line: &mut Line, class: Class)
-    requires { length line.old + 6 ≤ 128 }
-    ensures text { line.new ≡ line.old ++ class_text class }
-    ensures room { length line.new ≤ length line.old + 6 }
+#[inline(always)]
+fn put_class<P: Put>(into: &mut P, class: Class)
+    requires { length (P.text into.old) + 6 ≤ P.room }
+    ensures text { P.text into.new ≡ P.text into.old ++ class_text class }
+    ensures room { length (P.text into.new) ≤ length (P.text into.old) + 6 }
 {
     match class {
-        Class::Fetch => put(line, b"fetch"),
-        Class::Alu => put(line, b"alu"),
-        Class::Muldiv => put(line, b"muldiv"),
-        Class::Jump => put(line, b"jump"),
-        Class::Load => put(line, b"load"),
-        Class::Store => put(line, b"store"),
-        Class::Atomic => put(line, b"atomic"),
-        Class::Fence => put(line, b"fence"),
-        Class::Csr => put(line, b"csr"),
-        Class::System => put(line, b"system"),
-        Class::Walk => put(line, b"walk"),
-        Class::Trap => put(line, b"trap"),
-        Class::Pulse => put(line, b"pulse"),
-        Class::Device => put(line, b"device"),
+        Class::Fetch => into.put(b"fetch"),
+        Class::Alu => into.put(b"alu"),
+        Class::Muldiv => into.put(b"muldiv"),
+        Class::Jump => into.put(b"jump"),
+        Class::Load => into.put(b"load"),
+        Class::Store => into.put(b"store"),
+        Class::Atomic => into.put(b"atomic"),
+        Class::Fence => into.put(b"fence"),
+        Class::Csr => into.put(b"csr"),
+        Class::System => into.put(b"system"),
+        Class::Walk => into.put(b"walk"),
+        Class::Trap => into.put(b"trap"),
+        Class::Pulse => into.put(b"pulse"),
+        Class::Device => into.put(b"device"),
     }
 }

@@ -1,22 +1,23 @@
-ghost use Rattle.std.specs.Prelude.{◌≡◌};
+ghost use Rattle.std.specs.Prelude.{◌≡◌, ◌+◌, ◌≤◌, ◌++◌, length};
 ghost use Rattle.flex_top.specs.EventText.{header_text};
 
-use crate::text::put::{put, put_number, put_small};
-use flex_base::{Line, Settings};
+use crate::text::put::{Put, put_number, put_small};
+use flex_base::Settings;
 
 const MEBIBYTE: u64 = 1_048_576;
 
-/// Makes this the trace's first line: the settings.
+/// Puts the trace's first line: the settings.
 #[tactic(auto, unfolding(crate::specs::EventText::header_text))]
-pub fn header_line(settings: &Settings, into: &mut Line)
-    ensures { into.new ≡ header_text settings.now }
+pub fn put_header<P: Put>(settings: &Settings, into: &mut P)
+    requires { length (P.text into.old) + 71 ≤ P.room }
+    ensures text { P.text into.new ≡ P.text into.old ++ header_text settings.now }
+    ensures room { length (P.text into.new) ≤ length (P.text into.old) + 71 }
 {
-    into.clear();
-    put(into, b"trace 1 harts ");
+    into.put(b"trace 1 harts ");
     put_small(into, settings.harts);
-    put(into, b" ram ");
+    into.put(b" ram ");
     put_number(into, settings.ram / MEBIBYTE);
-    put(into, b" budget ");
+    into.put(b" budget ");
     put_number(into, settings.budget);
-    put(into, b"\n");
+    into.put(b"\n");
 }

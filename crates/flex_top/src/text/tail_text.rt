@@ -3,8 +3,8 @@ ghost use Rattle.std.specs.List.{flat_map};
 ghost use Rattle.flex_top.specs.EventText.{hex_digits};
 ghost use Rattle.flex_top.specs.TailText.{reason_text, stop_text, mode_text, of_hart, state_text, register_text, csr_text, ram_text, tail_line_text};
 
-use crate::text::put::{put, put_digits, put_hex, put_number, put_small};
-use flex_base::{HartId, Line, Mode, Stop};
+use crate::text::put::{Put, put_digits, put_hex, put_number, put_small};
+use flex_base::{HartId, Mode, Stop};
 
 /// A line of a trace after its events.
 #[derive(Clone, Copy)]
@@ -37,145 +37,153 @@ pub enum TailLine {
     Done,
 }
 
-/// Makes this the text of a line of the tail.
-pub fn tail_line(line: &TailLine, into: &mut Line)
-    ensures { into.new ≡ tail_line_text line.now }
+/// Puts a line of the tail.
+pub fn put_tail_line<P: Put>(line: &TailLine, into: &mut P)
+    requires { length (P.text into.old) + 71 ≤ P.room }
+    ensures text { P.text into.new ≡ P.text into.old ++ tail_line_text line.now }
+    ensures room { length (P.text into.new) ≤ length (P.text into.old) + 71 }
 {
     match line {
-        TailLine::Stop(stop) => stop_line(*stop, into),
+        TailLine::Stop(stop) => put_stop(*stop, into),
         TailLine::Hart {
             hart,
             ends,
             mode,
             pc,
-        } => hart_line(*hart, *ends, *mode, *pc, into),
+        } => put_state(*hart, *ends, *mode, *pc, into),
         TailLine::Reg {
             hart,
             number,
             value,
-        } => register_line(*hart, *number, *value, into),
+        } => put_register(*hart, *number, *value, into),
         TailLine::Csr {
             hart,
             number,
             value,
-        } => csr_line(*hart, *number, *value, into),
-        TailLine::Ram(digest) => ram_line(digest, into),
-        TailLine::Done => done_line(into),
+        } => put_csr(*hart, *number, *value, into),
+        TailLine::Ram(digest) => put_ram(digest, into),
+        TailLine::Done => put_done(into),
     }
 }
 
 #[tactic(auto, unfolding(crate::specs::TailText::stop_text))]
-fn stop_line(stop: Stop, into: &mut Line)
-    ensures { into.new ≡ stop_text stop }
+fn put_stop<P: Put>(stop: Stop, into: &mut P)
+    requires { length (P.text into.old) + 30 ≤ P.room }
+    ensures text { P.text into.new ≡ P.text into.old ++ stop_text stop }
+    ensures room { length (P.text into.new) ≤ length (P.text into.old) + 30 }
 {
-    into.clear();
-    put(into, b"stop ");
+    into.put(b"stop ");
     put_reason(into, stop);
-    put(into, b"\n");
+    into.put(b"\n");
 }
 
-fn put_reason(line: &mut Line, stop: Stop)
-    requires { length line.old + 24 ≤ 128 }
-    ensures text { line.new ≡ line.old ++ reason_text stop }
-    ensures room { length line.new ≤ length line.old + 24 }
+fn put_reason<P: Put>(into: &mut P, stop: Stop)
+    requires { length (P.text into.old) + 24 ≤ P.room }
+    ensures text { P.text into.new ≡ P.text into.old ++ reason_text stop }
+    ensures room { length (P.text into.new) ≤ length (P.text into.old) + 24 }
 {
     match stop {
-        Stop::Budget => put(line, b"budget"),
-        Stop::Idle => put(line, b"idle"),
+        Stop::Budget => into.put(b"budget"),
+        Stop::Idle => into.put(b"idle"),
         Stop::Off(code) => {
-            put(line, b"off ");
-            put_number(line, code as u64);
+            into.put(b"off ");
+            put_number(into, code as u64);
         }
     }
 }
 
 #[tactic(auto, unfolding(crate::specs::TailText::state_text))]
-fn hart_line(hart: HartId, ends: u64, mode: Mode, pc: u64, into: &mut Line)
-    ensures { into.new ≡ state_text hart.0 ends mode pc }
+fn put_state<P: Put>(hart: HartId, ends: u64, mode: Mode, pc: u64, into: &mut P)
+    requires { length (P.text into.old) + 63 ≤ P.room }
+    ensures text { P.text into.new ≡ P.text into.old ++ state_text hart.0 ends mode pc }
+    ensures room { length (P.text into.new) ≤ length (P.text into.old) + 63 }
 {
-    into.clear();
     put_hart(into, hart);
-    put(into, b" ends ");
+    into.put(b" ends ");
     put_number(into, ends);
-    put(into, b" mode ");
+    into.put(b" mode ");
     put_mode(into, mode);
-    put(into, b" pc ");
+    into.put(b" pc ");
     put_hex(into, pc);
-    put(into, b"\n");
+    into.put(b"\n");
 }
 
 #[tactic(auto, unfolding(crate::specs::TailText::register_text))]
-fn register_line(hart: HartId, number: u64, value: u64, into: &mut Line)
-    ensures { into.new ≡ register_text hart.0 number value }
+fn put_register<P: Put>(hart: HartId, number: u64, value: u64, into: &mut P)
+    requires { length (P.text into.old) + 48 ≤ P.room }
+    ensures text { P.text into.new ≡ P.text into.old ++ register_text hart.0 number value }
+    ensures room { length (P.text into.new) ≤ length (P.text into.old) + 48 }
 {
-    into.clear();
     put_hart(into, hart);
-    put(into, b" x");
+    into.put(b" x");
     put_number(into, number);
-    put(into, b" ");
+    into.put(b" ");
     put_hex(into, value);
-    put(into, b"\n");
+    into.put(b"\n");
 }
 
 #[tactic(auto, unfolding(crate::specs::TailText::csr_text))]
-fn csr_line(hart: HartId, number: u16, value: u64, into: &mut Line)
-    ensures { into.new ≡ csr_text hart.0 number value }
+fn put_csr<P: Put>(hart: HartId, number: u16, value: u64, into: &mut P)
+    requires { length (P.text into.old) + 34 ≤ P.room }
+    ensures text { P.text into.new ≡ P.text into.old ++ csr_text hart.0 number value }
+    ensures room { length (P.text into.new) ≤ length (P.text into.old) + 34 }
 {
-    into.clear();
     put_hart(into, hart);
-    put(into, b" csr ");
+    into.put(b" csr ");
     put_digits(into, 3, number as u64);
-    put(into, b" ");
+    into.put(b" ");
     put_hex(into, value);
-    put(into, b"\n");
+    into.put(b"\n");
 }
 
 #[tactic(auto, unfolding(crate::specs::TailText::ram_text))]
-fn ram_line(digest: &[u8; 32], into: &mut Line)
-    ensures { into.new ≡ ram_text digest.now }
+fn put_ram<P: Put>(digest: &[u8; 32], into: &mut P)
+    requires { length (P.text into.old) + 69 ≤ P.room }
+    ensures text { P.text into.new ≡ P.text into.old ++ ram_text digest.now }
+    ensures room { length (P.text into.new) ≤ length (P.text into.old) + 69 }
 {
-    into.clear();
-    put(into, b"ram ");
+    into.put(b"ram ");
     put_bytes(into, digest);
-    put(into, b"\n");
+    into.put(b"\n");
 }
 
 // Two hexadecimal digits a byte.
-fn put_bytes(line: &mut Line, bytes: &[u8])
-    requires { length line.old + 2 * length bytes.now ≤ 128 }
-    ensures text { line.new ≡ line.old ++ flat_map (hex_digits 2) bytes.now }
-    ensures room { length line.new ≡ length line.old + 2 * length bytes.now }
+fn put_bytes<P: Put>(into: &mut P, bytes: &[u8])
+    requires { length (P.text into.old) + 2 * length bytes.now ≤ P.room }
+    ensures text { P.text into.new ≡ P.text into.old ++ flat_map (hex_digits 2) bytes.now }
+    ensures room { length (P.text into.new) ≡ length (P.text into.old) + 2 * length bytes.now }
 {
     for byte in bytes {
-        put_digits(line, 2, u64::from(*byte));
+        put_digits(into, 2, u64::from(*byte));
     }
 }
 
-fn done_line(into: &mut Line)
-    ensures { into.new ≡ tail_line_text TailLine.Done }
+fn put_done<P: Put>(into: &mut P)
+    requires { length (P.text into.old) + 5 ≤ P.room }
+    ensures text { P.text into.new ≡ P.text into.old ++ tail_line_text TailLine.Done }
+    ensures room { length (P.text into.new) ≤ length (P.text into.old) + 5 }
 {
-    into.clear();
-    put(into, b"done\n");
+    into.put(b"done\n");
 }
 
-fn put_mode(line: &mut Line, mode: Mode)
-    requires { length line.old + 1 ≤ 128 }
-    ensures text { line.new ≡ line.old ++ mode_text mode }
-    ensures room { length line.new ≡ length line.old + 1 }
+fn put_mode<P: Put>(into: &mut P, mode: Mode)
+    requires { length (P.text into.old) + 1 ≤ P.room }
+    ensures text { P.text into.new ≡ P.text into.old ++ mode_text mode }
+    ensures room { length (P.text into.new) ≡ length (P.text into.old) + 1 }
 {
     match mode {
-        Mode::U => put(line, b"u"),
-        Mode::S => put(line, b"s"),
-        Mode::M => put(line, b"m"),
+        Mode::U => into.put(b"u"),
+        Mode::S => into.put(b"s"),
+        Mode::M => into.put(b"m"),
     }
 }
 
 // What each line of a hart begins with.
-fn put_hart(line: &mut Line, hart: HartId)
-    requires { length line.old + 8 ≤ 128 }
-    ensures text { line.new ≡ line.old ++ of_hart hart.0 }
-    ensures room { length line.new ≤ length line.old + 8 }
+fn put_hart<P: Put>(into: &mut P, hart: HartId)
+    requires { length (P.text into.old) + 8 ≤ P.room }
+    ensures text { P.text into.new ≡ P.text into.old ++ of_hart hart.0 }
+    ensures room { length (P.text into.new) ≤ length (P.text into.old) + 8 }
 {
-    put(line, b"hart ");
-    put_small(line, hart.0);
+    into.put(b"hart ");
+    put_small(into, hart.0);
 }

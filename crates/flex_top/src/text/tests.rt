@@ -27,7 +27,7 @@ fn assert_event(
     text: &str,
 ) -> Result<(), AllocError> {
     let mut line = Line::new();
-    event_line(event, &mut line);
+    put_event(event, &mut Number::of(0), &mut line);
     let (number, hart) = (event.number, event.hart.0);
     let whole = format!(in alloc; "{number} {hart} p {text}\n")?;
     assert!(rt; line.bytes() == whole.as_bytes(), "not {whole}");
@@ -141,7 +141,8 @@ fn writes_ends_and_handovers(rt: HostRuntime) -> Result<(), AllocError> {
     let mut line = Line::new();
     for (engine, text) in [(Engine::Kernel, "7 0 k to p\n"), (Engine::Host, "7 0 h to p\n")] {
         let leaves = Event { number: 7, hart: HartId(0), engine, what: What::Handover(Engine::Pipe) };
-        event_line(&leaves, &mut line);
+        line.clear();
+        put_event(&leaves, &mut Number::of(0), &mut line);
         assert_line(&rt, &line, text);
     }
     Ok(())
@@ -156,7 +157,7 @@ fn assert_line(rt: &impl Abort, line: &Line, text: &str) {
 fn writes_the_lines_around_the_events(rt: HostRuntime) {
     let mut line = Line::new();
     let settings = Settings { harts: 32, ram: 256 << 20, budget: 1 << 32 };
-    header_line(&settings, &mut line);
+    put_header(&settings, &mut line);
     assert_line(&rt, &line, "trace 1 harts 32 ram 256 budget 4294967296\n");
     let hart = HartId(12);
     for (tail, text) in [
@@ -166,7 +167,8 @@ fn writes_the_lines_around_the_events(rt: HostRuntime) {
         (TailLine::Hart { hart, ends: 3, mode: Mode::S, pc: 16 }, "hart 12 ends 3 mode s pc 0000000000000010\n"),
         (TailLine::Hart { hart, ends: 0, mode: Mode::U, pc: 0 }, "hart 12 ends 0 mode u pc 0000000000000000\n"),
     ] {
-        tail_line(&tail, &mut line);
+        line.clear();
+        put_tail_line(&tail, &mut line);
         assert_line(&rt, &line, text);
     }
 }

@@ -5,7 +5,7 @@ use Rattle.flex_top.proofs.text.tail_text.put_bytes.Given as goal
 
 -- the bytes so far are written
 abbrev pub invariant-loop-byte : goal.invariant-loop-byte
-invariant-loop-byte l = record {
-  text : l.line ≡ l.fn.line ++ flat_map (hex_digits 2) (take l.byte-index l.bytes);
-  room : length l.line ≡ length l.fn.line + 2 * l.byte-index;
+invariant-loop-byte g l = record {
+  text : g.P.Put.text l.into ≡ g.P.Put.text l.fn.into ++ flat_map (hex_digits 2) (take l.byte-index l.bytes);
+  room : length (g.P.Put.text l.into) ≡ length (g.P.Put.text l.fn.into) + 2 * l.byte-index;
 }

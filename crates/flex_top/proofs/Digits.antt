@@ -1,0 +1,60 @@
+-- The decimal digits of a number.
+use Rattle.std.proofs.Common.{◌≡◌, ℕ, zero, suc, ◌+◌, ◌-◌, ◌/◌, ◌%◌, ◌^◌, ◌<◌, ◌≤◌, List, [], ◌∷◌, ◌++◌, take, set, get_or, length, decimal, refl, sym, ap, ◌∙◌, inl, inr, arith}
+use Rattle.std.proofs.lemmas.Fmt.{decimal_digit, decimal_step, decimal_nonempty}
+use Rattle.std.proofs.lemmas.List.{take_more, take_more_set, same_from_push}
+use Rattle.std.proofs.lemmas.Bool.{cases_lt}
+
+pub two_digits : (n : ℕ) → 10 ≤ n → n < 100 → decimal n ≡ (48 + n / 10) ∷ (48 + n % 10) ∷ []
+two_digits n ten below =
+    decimal_step n ten (omega (arith, below)) ∙ ap (λ (ds : List ℕ). ds ++ (48 + n % 10) ∷ []) (decimal_digit (n / 10) (omega (arith, ten, below)))
+
+pub some_digit : (count : ℕ) (digits : List ℕ) (n : ℕ) → n < 2 ^ 64 → take count digits ≡ decimal n → 1 ≤ count
+some_digit zero digits n small is = absurd (omega (arith, decimal_nonempty n small, ap (λ (ds : List ℕ). length ds) is))
+some_digit (suc k) digits n small is = omega arith
+
+-- the digits before the last one, and the last one; where that isn't a nine, the next number differs in it alone
+record LastDigit (n : ℕ) : Type 0 where
+  before : List ℕ
+  digits : decimal n ≡ before ++ (48 + n % 10) ∷ []
+  next : n % 10 < 9 → decimal (n + 1) ≡ before ++ (48 + n % 10 + 1) ∷ []
+
+last_digit : (n : ℕ) → n + 1 < 2 ^ 64 → LastDigit n
+last_digit n small = elim (cases_lt n 10) [
+  | inl below ↦
+      let same : n ≡ n % 10 = omega (arith, below) in
+      record {
+        before = [];
+        digits = decimal_digit n below ∙ ap (λ (d : ℕ). (48 + d) ∷ []) same;
+        next = λ low.
+            let more : 48 + (n + 1) ≡ 48 + n % 10 + 1 = omega (arith, same) in
+            decimal_digit (n + 1) (omega (arith, low, same)) ∙ ap (λ (d : ℕ). d ∷ []) more;
+      }
+  | inr ten ↦ record {
+      before = decimal (n / 10);
+      digits = decimal_step n ten (omega (arith, small));
+      next = λ low.
+          let same : (n + 1) / 10 ≡ n / 10 = omega (arith, low) in
+          let more : 48 + (n + 1) % 10 ≡ 48 + n % 10 + 1 = omega (arith, low) in
+          decimal_step (n + 1) (omega (arith, ten)) small
+          ∙ ap (λ (m : ℕ). decimal m ++ (48 + (n + 1) % 10) ∷ []) same
+          ∙ ap (λ (d : ℕ). decimal (n / 10) ++ d ∷ []) more;
+    }
+]
+
+-- the last of so many digits counts up
+pub counted : (count : ℕ) (digits : List ℕ) (n : ℕ) → n + 1 < 2 ^ 64 → 1 ≤ count → count ≤ length digits → take count digits ≡ decimal n
+    → get_or digits (count - 1) 0 < 57 → take count (set digits (count - 1) (get_or digits (count - 1) 0 + 1)) ≡ decimal (n + 1)
+counted count digits n small some within is below =
+    let i = count - 1 in
+    let d = get_or digits i 0 in
+    let last = last_digit n small in
+    let one : count ≡ i + 1 = omega (arith, some) in
+    let inside : i < length digits = omega (arith, some, within) in
+    let more : take count digits ≡ take i digits ++ d ∷ [] = ap (λ (k : ℕ). take k digits) one ∙ take_more digits i 0 inside in
+    let both = same_from_push (take i digits) last.before d (48 + n % 10) (sym more ∙ is ∙ last.digits) in
+    let low : n % 10 < 9 = omega (arith, both.1, below) in
+    ap (λ (k : ℕ). take k (set digits i (d + 1))) one
+    ∙ take_more_set digits i (d + 1) inside
+    ∙ ap (λ (ds : List ℕ). ds ++ (d + 1) ∷ []) both.0
+    ∙ ap (λ (e : ℕ). last.before ++ (e + 1) ∷ []) both.1
+    ∙ sym (last.next low)
