@@ -2,9 +2,9 @@
 use Rattle.std.specs.Prelude.{◌≡◌, ◌≢◌, ℕ, ◌⊎◌, Bool, true, false, ◌&&◌, ◌==◌, List, [], ◌∷◌, ◌++◌, Some, ◌<◌, ◌^◌, slice_index, bit_and}
 use Rattle.std.specs.List.{list_all, list_any, range_with_len}
 use Rattle.flex_base.specs.Causes.{interrupt}
-use Rattle.flex_base.specs.Csrs.{AreFit, IsCause, csr_read, csr_write, MIE, MPP, SIE, SPP, Row, Source, Store, Pending, rows, mideleg, mip, store_bits, with_bits}
-use Rattle.flex_base.specs.Traps.{interrupts, is_ready, is_for_m, is_for_s, takeable, trap, mode_of, mstatus_after_trap_to_m, mstatus_after_trap_to_s, mstatus_after_mret, mstatus_after_sret}
-use Rattle.flex_base.specs.Word.{field, is_multiple}
+use Rattle.flex_base.specs.Csrs.{csr_read, MIE, MPP, SIE, SPP, Row, Source, Store, Pending, rows, mideleg, mip, store_bits, with_bits}
+use Rattle.flex_base.specs.Traps.{interrupts, is_ready, is_for_m, is_for_s, takeable, mode_of, mstatus_after_trap_to_m, mstatus_after_trap_to_s, mstatus_after_mret, mstatus_after_sret}
+use Rattle.flex_base.specs.Word.{field}
 use Rattle.flex_base.specs.declared.hart.Mode.{Mode}
 use Rattle.flex_base.specs.declared.hart.Mode.TheVariants as mode
 

@@ -9,6 +9,7 @@ pub mod Quiet
 pub mod OwnReservations
 pub mod StandingReservations
 pub mod EndOfRun
+pub mod EndClass
 pub mod KnownBytes
 pub mod DevicePlaces
 pub mod Alarms

@@ -17,6 +17,7 @@ pub mod Setup
 pub mod Zicsr
 pub mod Translation
 pub mod Story
+pub mod EndClass
 pub mod Forms
 pub mod FlatMemory
 pub mod DevicesSoFar
