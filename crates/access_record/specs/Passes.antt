@@ -8,7 +8,7 @@ use Rattle.access_record.specs.declared.entry.LogEntry.{LogEntry}
 use Rattle.access_record.specs.declared.view.HartView.{HartView}
 use Rattle.access_record.specs.declared.view.BankView.{BankView}
 use Rattle.access_record.specs.declared.view.View.{View}
-use Rattle.access_record.specs.Logs.{log_of}
+use Rattle.access_record.specs.Logs.{IsRecord, log_of}
 use Rattle.access_record.specs.Rule.{count_of, occurrences, view_of, founder_with}
 
 -- which record it is, and its limits
@@ -108,6 +108,10 @@ logs_of ps = log_of (λ (p : PassOfHart). p.hart.0) (λ (p : PassOfHart). p.log)
 
 abbrev pub bank_logs_of : List PassOfBank → ℕ → List LogEntry
 bank_logs_of ps = log_of (λ (p : PassOfBank). p.bank) (λ (p : PassOfBank). p.log) ps
+
+-- the logs of these passes are a record of n events
+unfoldable pub AreRecord : Limits → ℕ → List PassOfHart → List PassOfBank → Type 0
+AreRecord limits n ps ds = IsRecord limits n (logs_of ps) (bank_logs_of ds)
 
 -- each of these harts, or banks, has a pass among these
 abbrev pub EachHasPass : List ℕ → List PassOfHart → Type 0

@@ -3,7 +3,7 @@ ghost use Rattle.std.specs.Prelude.{◌≡◌, ◌≤◌, [], length, map};
 ghost use Rattle.std.specs.List.{All};
 ghost use Rattle.std.specs.Vec.{vec_len, vec_capacity};
 ghost use Rattle.access_record.specs.Steps.{IsSeatOf};
-ghost use Rattle.access_record.specs.Passes.{with_passes, with_bank_passes, view_of_pass, view_of_bank_pass, pass_of, first_hart, IsPass, bank_pass_of, first_bank, IsBankPass};
+ghost use Rattle.access_record.specs.Passes.{EachHasPass, EachHasBankPass, AreRecord, with_passes, with_bank_passes, view_of_pass, view_of_bank_pass, pass_of, first_hart, IsPass, bank_pass_of, first_bank, IsBankPass};
 ghost use Rattle.access_record.specs.Gathered.{ListsHarts, ListsBanks, with_hart_views, with_bank_views};
 
 use crate::pass::{BankPass, Pass};
@@ -145,4 +145,29 @@ pub(crate) fn give_bank_passes(
         let pushed = passes.push(pass);
         let Ok(()) = pushed else { unreachable!() };
     }
+}
+
+// Ends a record's table by the seat that has all logs, and gives how many events were counted.
+pub(crate) fn end_table(table: RecordTable, all: Gathered) -> u64
+    requires record { all.id ≡ table.shared.table_id }
+    requires table { (table.shared.table_id.words ≡ 1) × (table.shared.table_id.slots ≡ 0) }
+    requires harts { EachHasPass all.harts all.passes }
+    requires banks { EachHasBankPass all.banks all.bank_passes }
+    ensures { AreRecord table.shared.key result all.passes all.bank_passes }
+{
+    let Gathered {
+        seat,
+        harts: _,
+        count: _,
+        banks: _,
+        bank_count: _,
+        passes,
+        bank_passes,
+    } = all;
+    passes.destroy_empty();
+    bank_passes.destroy_empty();
+    let closed = table.close_with(seat);
+    let count = closed.word(0);
+    closed.free();
+    count
 }

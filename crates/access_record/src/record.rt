@@ -1,12 +1,14 @@
 ghost use Rattle.std.specs.Prelude.{◌≡◌, ℕ, ◌+◌, ◌*◌, ◌<◌, ◌≤◌, ◌^◌, [], length, IfOk, None, Some, true, false};
 ghost use Rattle.std.specs.List.{All};
-ghost use Rattle.access_record.specs.Logs.{is_access, on_bank, of_hart, Ascends, IsRecord, log_entry};
+ghost use Rattle.access_record.specs.Logs.{is_access, on_bank, of_hart, Ascends, log_entry};
 ghost use Rattle.access_record.specs.Rule.{occurrences};
 ghost use Rattle.access_record.specs.Gathered.{all_passes, enrolment_of};
-ghost use Rattle.access_record.specs.Passes.{add_hart, add_bank, new_pass, new_bank_pass, add_entry, add_bank_entry, add_look, logs_of, bank_logs_of, EachHasPass, EachHasBankPass};
+ghost use Rattle.access_record.specs.Passes.{add_hart, add_bank, new_pass, new_bank_pass, add_entry, add_bank_entry, add_look, EachHasPass, EachHasBankPass, AreRecord};
 
 use crate::entry::Entry;
-use crate::gathered::{Gathered, give_bank_passes, give_passes, take_bank_passes, take_passes};
+use crate::gathered::{
+    Gathered, end_table, give_bank_passes, give_passes, take_bank_passes, take_passes,
+};
 use crate::limits::Limits;
 use crate::pass::{BankPass, Founder, Pass};
 use crate::steps;
@@ -146,24 +148,13 @@ impl AccessRecord {
         requires bank_pass_records { All (λ p. p.id ≡ self.id) bank_passes.items }
         requires harts { EachHasPass founder.harts passes.items }
         requires banks { EachHasBankPass founder.banks bank_passes.items }
-        ensures { IsRecord self.limits result.count (logs_of passes.items) (bank_logs_of bank_passes.items) }
+        ensures { AreRecord self.limits result.count passes.items bank_passes.items }
     {
-        let Gathered {
-            seat,
-            harts: _,
-            count: _,
-            banks: _,
-            bank_count: _,
-            passes,
-            bank_passes,
-        } = self.gather(founder, passes, bank_passes);
-        passes.destroy_empty();
-        bank_passes.destroy_empty();
+        let all = self.gather(founder, passes, bank_passes);
         let AccessRecord { table } = self;
-        let closed = table.close_with(seat);
-        let count = closed.word(0);
-        closed.free();
-        Closed { count }
+        Closed {
+            count: end_table(table, all),
+        }
     }
 
     /// Takes all passes apart for a while, as between two rounds of a run. The logs of all are then
@@ -180,8 +171,7 @@ impl AccessRecord {
         requires harts { EachHasPass founder.harts passes.items }
         requires banks { EachHasBankPass founder.banks bank_passes.items }
         ensures same { result ≡ all_passes founder passes.items bank_passes.items }
-        ensures known { (n : ℕ)
-            × IsRecord self.now.limits n (logs_of passes.items) (bank_logs_of bank_passes.items) }
+        ensures known { (n : ℕ) × AreRecord self.now.limits n passes.items bank_passes.items }
     {
         let Founder { mut seat } = founder;
         let count = passes.len();

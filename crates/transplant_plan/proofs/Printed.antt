@@ -28,9 +28,11 @@ classes_sound f (c ∷ cs) so_far runs none =
     classes_sound f cs (with_engine f so_far c) runs (with_member-none engine_fault (class_name c) (string (engine_name (f c))) so_far (class_sound f c runs) none)
 
 engines_sound : (f : Class → Engine) → CanRun f → first_fault engine_fault (engines_of f) ≡ None
+unfolding engines_of
 engines_sound f runs = classes_sound f classes no_members runs (first_fault-empty engine_fault)
 
 string_back : (f : Class → Engine) (c : Class) → string_at (class_name c) (engines_of f) ≡ Some (engine_name (f c))
+unfolding engines_of
 string_back f class.Fetch = refl
 string_back f class.Alu = refl
 string_back f class.Muldiv = refl
@@ -72,6 +74,7 @@ assignment-document plan sound = λ i. record {
 
 -- the printed document is no deeper than what is read
 pub depth-document : (plan : Assignment) → members_depth (document_of plan) ≤ 80
+unfolding engines_of
 depth-document plan = lit≤ tt
 
 pub plan_of-document : (plan : Assignment) (bytes : List ℕ) → IsSound plan → is_utf8 bytes ≡ true → parse_document bytes ≡ Some (document_of plan)

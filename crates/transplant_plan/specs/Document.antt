@@ -18,7 +18,8 @@ with_member key value (member k d rest) =
 abbrev pub with_engine : (Class → Engine) → Members → Class → Members
 with_engine engine_of members class = with_member (class_name class) (string (engine_name (engine_of class))) members
 
-abbrev pub engines_of : (Class → Engine) → Members
+-- the engine of each class
+unfoldable pub engines_of : (Class → Engine) → Members
 engines_of engine_of = fold (with_engine engine_of) no_members classes
 
 -- all keys with their values, where all harts have the engines of hart 0

@@ -1,11 +1,12 @@
-ghost use Rattle.std.specs.Prelude.{◌≡◌, IfOk, Ok, OnOk};
+ghost use Rattle.std.specs.Prelude.{◌≡◌, IfOk, Ok, OnOk, fold};
 ghost use Rattle.toml.specs.View.{view, table_view};
-ghost use Rattle.transplant_plan.specs.Document.{document_of, engines_of, with_member};
+ghost use Rattle.transplant_plan.specs.Document.{document_of, engines_of, with_engine, with_member};
 ghost use Rattle.transplant_plan.specs.PlanFile.{plan_of};
 ghost use Rattle.transplant_plan.specs.Shown.{shown};
 
 use crate::names::{CLASSES, class_name, engine_name};
 use crate::plan::Plan;
+use flex_base::Class;
 use std::alloc::{AllocError, Global};
 use toml::{Table, Value};
 
@@ -36,15 +37,30 @@ fn document_of(alloc: Global, plan: &Plan) -> Result<Table, AllocError>
 }
 
 // The table of engines.
+#[tactic(auto, unfolding(crate::specs::Document::engines_of))]
 fn engines_of(alloc: Global, plan: &Plan) -> Result<Table, AllocError>
     ensures { IfOk result (λ t. table_view t ≡ engines_of ((shown plan.now).engines 0)) }
 {
     let mut engines = Table::new(alloc);
-    for class in CLASSES {
-        let name = Value::string(alloc, engine_name(plan.engine_for(class)))?;
-        put(alloc, &mut engines, class_name(class), name)?;
-    }
+    put_engines(alloc, &mut engines, plan, &CLASSES)?;
     Ok(engines)
+}
+
+// Puts the engine of each of these classes.
+fn put_engines(
+    alloc: Global,
+    engines: &mut Table,
+    plan: &Plan,
+    of: &[Class],
+) -> Result<(), AllocError>
+    ensures { OnOk result (table_view engines.new
+        ≡ fold (with_engine ((shown plan.now).engines 0)) (table_view engines.old) of.now) }
+{
+    for class in of {
+        let name = Value::string(alloc, engine_name(plan.engine_for(*class)))?;
+        put(alloc, engines, class_name(*class), name)?;
+    }
+    Ok(())
 }
 
 // Puts a value at a key.

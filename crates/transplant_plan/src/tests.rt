@@ -44,8 +44,14 @@ fn is_refused(alloc: Global, bytes: &[u8], expected: &Expected) -> bool {
     }
 }
 
+fn are_refused(alloc: Global, table: &[(&[u8], Expected)]) -> bool {
+    table
+        .iter()
+        .all(|(bytes, expected)| is_refused(alloc, bytes, expected))
+}
+
 #[test]
-fn each_fault_is_named(rt: HostRuntime) -> Result<(), Fail> {
+fn each_fault_is_named(rt: HostRuntime) {
     let table: [(&[u8], Expected); 20] = [
         (b"\xff", Expected::NotUtf8),
         (b"banks =", Expected::NotToml),
@@ -83,15 +89,12 @@ fn each_fault_is_named(rt: HostRuntime) -> Result<(), Fail> {
         (b"kernels = 1.0", Expected::BadCount("kernels", None)),
         (b"version = 2", Expected::BadCount("version", Some(2))),
     ];
-    for (bytes, expected) in &table {
-        assert!(rt; is_refused(rt.alloc(), bytes, expected));
-    }
-    Ok(())
+    assert!(rt; are_refused(rt.alloc(), &table));
 }
 
 // Of two faults the one of the first key in the order of bytes, whatever the order in the file.
 #[test]
-fn the_first_of_two_faults_is_named(rt: HostRuntime) -> Result<(), Fail> {
+fn the_first_of_two_faults_is_named(rt: HostRuntime) {
     let banks = || Expected::BadCount("banks", Some(3));
     let table: [(&[u8], Expected); 21] = [
         (b"version = 2\nbanks = 3", banks()),
@@ -143,44 +146,57 @@ fn the_first_of_two_faults_is_named(rt: HostRuntime) -> Result<(), Fail> {
             Expected::UnknownEngine(Class::Alu, Some("fpga")),
         ),
     ];
-    for (bytes, expected) in &table {
-        assert!(rt; is_refused(rt.alloc(), bytes, expected));
-    }
-    Ok(())
+    assert!(rt; are_refused(rt.alloc(), &table));
 }
 
-fn repeated(alloc: Global, head: &str, piece: &str, count: usize) -> Result<String, AllocError> {
-    let mut text = String::from_str(alloc, head)?;
-    for _ in 0..count {
-        text.push_str(piece)?;
-    }
-    Ok(text)
+// Whether the file has a plan with these counts of banks, pipes and kernels and these engines.
+fn is_read(alloc: Global, bytes: &[u8], counts: [u8; 3], engines: [(Class, Engine); 2]) -> bool {
+    let Ok(plan) = read_plan(alloc, bytes) else {
+        return false;
+    };
+    counts == [plan.banks(), plan.pipes(), plan.kernels()]
+        && engines
+            .iter()
+            .all(|(class, engine)| plan.engine_for(*class) == *engine)
 }
 
 #[test]
-fn every_form_of_toml_is_read(rt: HostRuntime) -> Result<(), Fail> {
+fn every_form_of_toml_is_read(rt: HostRuntime) {
     let alloc = rt.alloc();
-    let plan = read_plan(
-        alloc,
-        b"# a comment\nbanks = 0x10 # sixteen\n'pipes' = 0b11\n\"kernels\" = +4\nengine . alu = 'kernel'\n",
-    )?;
-    assert_eq!(rt; plan.banks(), 16);
-    assert_eq!(rt; plan.pipes(), 3);
-    assert_eq!(rt; plan.kernels(), 4);
-    assert_eq!(rt; plan.engine_for(Class::Alu), Engine::Kernel);
-    assert_eq!(rt; plan.engine_for(Class::Jump), Engine::Pipe);
-    let inline = read_plan(alloc, b"engine = { device = \"host\", trap = '''host''' }")?;
-    assert_eq!(rt; inline.engine_for(Class::Trap), Engine::Host);
-    assert_eq!(rt; inline.engine_for(Class::Walk), Engine::Kernel);
-    let longest = repeated(alloc, "banks = 8 # ", ".", 65_536 - 12)?;
+    let forms =
+        b"# a comment\nbanks = 0x10 # sixteen\n'pipes' = 0b11\n\"kernels\" = +4\nengine . alu = 'kernel'\n";
+    let engines = [(Class::Alu, Engine::Kernel), (Class::Jump, Engine::Pipe)];
+    assert!(rt; is_read(alloc, forms, [16, 3, 4], engines));
+    let inline = b"engine = { device = \"host\", trap = '''host''' }";
+    let engines = [(Class::Trap, Engine::Host), (Class::Walk, Engine::Kernel)];
+    assert!(rt; is_read(alloc, inline, [4, 2, 1], engines));
+}
+
+// The text, with this piece after it so many times, and then the other as many times.
+fn repeated(
+    alloc: Global,
+    text: &str,
+    pieces: (&str, &str),
+    count: usize,
+) -> Result<String, AllocError> {
+    let mut whole = String::from_str(alloc, text)?;
+    whole.push_str(pieces.0.repeat(alloc, count)?.as_str())?;
+    whole.push_str(pieces.1.repeat(alloc, count)?.as_str())?;
+    Ok(whole)
+}
+
+// The longest file, and the deepest. The reader takes arrays up to 80 deep: such a text is refused by
+// its key, a deeper one as text.
+#[test]
+fn long_and_deep_files_are_read(rt: HostRuntime) -> Result<(), Fail> {
+    let alloc = rt.alloc();
+    let longest = repeated(alloc, "banks = 8 # ", (".", ""), 65_536 - 12)?;
     assert_eq!(rt; longest.len(), 65_536);
-    assert_eq!(rt; read_plan(alloc, longest.as_bytes())?.banks(), 8);
-    // The reader takes arrays up to 80 deep: such a text is refused by its key, a deeper one as text.
-    let mut deep = repeated(alloc, "a = ", "[", 80)?;
-    deep.push_str(repeated(alloc, "", "]", 80)?.as_str())?;
+    let engines = [(Class::Alu, Engine::Pipe), (Class::Csr, Engine::Kernel)];
+    assert!(rt; is_read(alloc, longest.as_bytes(), [8, 2, 1], engines));
+    let deep = repeated(alloc, "a = ", ("[", "]"), 80)?;
     assert!(rt; is_refused(alloc, deep.as_bytes(), &Expected::UnknownKey("a")));
-    let mut deeper = repeated(alloc, "a = ", "[", 81)?;
-    deeper.push_str(repeated(alloc, "", "]", 81)?.as_str())?;
+    let deeper = repeated(alloc, "a = ", ("[", "]"), 81)?;
     assert!(rt; is_refused(alloc, deeper.as_bytes(), &Expected::NotToml));
     Ok(())
 }

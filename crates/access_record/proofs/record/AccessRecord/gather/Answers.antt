@@ -2,7 +2,7 @@ use Rattle.std.proofs.Common.{◌≡◌, ℕ, ◌∙◌, subst, rules}
 use Rattle.atomic_table.specs.Table.{Me}
 use Rattle.access_record.specs.declared.view.View.{View}
 use Rattle.access_record.specs.Logs.{IsRecord}
-use Rattle.access_record.specs.Passes.{RecordIdentity, Enrolment, logs_of, bank_logs_of}
+use Rattle.access_record.specs.Passes.{RecordIdentity, Enrolment, logs_of, bank_logs_of, AreRecord}
 use Rattle.access_record.specs.Gathered.{all_in_view}
 use Rattle.access_record.proofs.Closing.{has_all_logs, record_of_passes}
 use Rattle.access_record.proofs.Taking.{all_taken}
@@ -24,6 +24,7 @@ returns-clause-same c =
     (λ i. all_in_view (table i) (c.learn_rule.ensures.same i).0) ∙ taken.1
 
 pub returns-clause-known : goal.returns-clause-known
+unfolding AreRecord
 returns-clause-known c =
     let r : Enrolment = c.args.founder in
     let ps = c.args.passes.items in
