@@ -61,22 +61,6 @@ pub mstatus_fit : (harts : ℕ) (stores : List ℕ) (value : ℕ) → AreFit har
 mstatus_fit harts stores value fit within mpp =
     set_fit harts stores mstatus value fit (omega arith) (λ below. within) (λ e. mpp) (λ e. absurd (omega (arith, e))) (λ e. absurd (omega (arith, e)))
 
--- The start.
-
-zeros : (hart k : ℕ) → k < 20 → slice_index (start_csrs hart) k ≡ 0
-zeros hart k less = get_or_append_left (replicate 20 0) (hart ∷ []) 0 k less ∙ get_or-replicate 20 k 0 0 less
-
-pub start_fit : (hart harts : ℕ) → hart < harts → AreFit harts (start_csrs hart)
-start_fit hart harts less = record {
-  places = refl;
-  within = λ k below.
-      let Within : ℕ → Type 0 = λ x. IsWithin (slice_index store_bits k) x in
-      subst Within (sym (zeros hart k below)) refl;
-  mpp = λ e. absurd (omega (arith, e));
-  satp_mode = refl;
-  hart = less;
-}
-
 -- Counters.
 
 wrapped_within : (n : ℕ) → IsWithin all_bits (wrap n)

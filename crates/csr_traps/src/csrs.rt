@@ -76,7 +76,7 @@ pub struct IllegalCsr;
 impl Csrs {
     /// The registers of a hart at its start: all are 0 but its number. The bits of mstatus and misa
     /// that are constant come with reading.
-    #[tactic(auto, using(crate::proofs::Fitting::start_fit))]
+    #[tactic(auto, using(flex_base::proofs::Beginning::start_fit))]
     pub fn new(hart: HartId) -> Csrs
         ensures start { result ≡ start_csrs hart.0 }
         ensures fit { (harts : ℕ) → hart.0 < harts → AreFit harts result }

@@ -1,4 +1,5 @@
 pub mod Places
+pub mod Beginning
 pub mod Stories
 pub mod Machines
 pub mod Orders

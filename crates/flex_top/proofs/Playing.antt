@@ -13,7 +13,7 @@ use Rattle.flex_base.specs.Story.{Asks, Ends}
 use Rattle.flex_base.specs.Classes.{default_plan}
 use Rattle.flex_base.specs.FlatMemory.{Done, is_ram_access}
 use Rattle.flex_base.specs.Unsplit.{Machine, Made, Instruction, instruction_at, instruction_from, instruction_after, want_of, reply_to, step, make, makes, does, with_access, hart_numbers}
-use Rattle.flex_base.specs.DevicesSoFar.{is_spent, is_retire}
+use Rattle.flex_base.specs.DevicesSoFar.{device_reply, is_spent, is_retire}
 use Rattle.flex_base.specs.Split.{Plan, split_event, split_run, first_split}
 use Rattle.flex_base.specs.declared.access.Access.{Access}
 use Rattle.flex_base.specs.declared.access.Access.TheVariants as acc
@@ -27,8 +27,8 @@ use Rattle.hart_story.specs.declared.hart.Hart.{Hart}
 use Rattle.hart_story.specs.declared.progress.Progress.{Progress}
 use Rattle.hart_story.specs.declared.progress.Progress.TheVariants as progress
 use Rattle.hart_story.proofs.Asking.{asks_not_done}
-use Rattle.mem_lines.specs.Bank.{Bank}
-use Rattle.flex_top.specs.Memory.{Keeps, ram_after}
+use Rattle.flex_top.specs.Memory.{Serves, ram_after, devices_after}
+use Rattle.flex_top.specs.declared.memory.Memory.{Memory}
 use Rattle.flex_top.specs.Splitting.{splitting_of}
 use Rattle.flex_top.specs.Play.{IsHart, IsAt, progress_at, layout_of}
 use Rattle.flex_top.specs.Trace.{settings_of}
@@ -78,6 +78,10 @@ spent_after devices h (acc.Amo does address width value) reply before = before
 spent_after devices h other reply before = any_more devices h other reply before
 
 -- no reply tells a stop so far
+devices_tell_no_stop : (made : List Done) (access : Access) → (device_reply made access).stop ≡ false
+devices_tell_no_stop made acc.Time = refl
+devices_tell_no_stop made other = refl
+
 pub tells_no_stop : (setup : Setup) (u : Machine) (h : ℕ) (access : Access) → (reply_to setup u h access).stop ≡ false
 tells_no_stop setup u h (acc.Fetch address) = refl
 tells_no_stop setup u h (acc.Pte address) = refl
@@ -86,7 +90,7 @@ tells_no_stop setup u h (acc.Write address width value) = refl
 tells_no_stop setup u h (acc.Lr address width) = refl
 tells_no_stop setup u h (acc.Sc address width value) = refl
 tells_no_stop setup u h (acc.Amo does address width value) = refl
-tells_no_stop setup u h other = refl
+tells_no_stop setup u h other = devices_tell_no_stop u.devices other
 
 spent_other : (devices : List Done) (h k : ℕ) (access : Access) (reply : Reply) → k ≢ h → is_spent (if is_ram_access access then devices else with_access devices h access reply) k ≡ is_spent devices k
 spent_other devices h k access reply other = elim (is_ram_access access) as (λ b. is_spent (if b then devices else with_access devices h access reply) k ≡ is_spent devices k)
@@ -157,7 +161,7 @@ pub at_access : (setup : Setup) (u : Machine) (player next : Player) (h : ℕ) (
     → next.settings ≡ player.settings
     → is_done far ≡ is_retire access
     → next.harts.items ≡ player.harts.items → next.progress.items ≡ set player.progress.items h far
-    → Keeps setup (ram_after u.ram h access (reply_to setup u h access)) next.lines
+    → Serves setup (ram_after u.ram h access (reply_to setup u h access)) (devices_after u.devices h access (reply_to setup u h access)) next.memory
     → length next.run.engines.items ≡ length player.run.engines.items
     → splitting_of next.run ≡ split_event default_plan (splitting_of player.run) (does h (what.Acc access (reply_to setup u h access)))
     → IsAt setup (step setup u h) next
@@ -202,11 +206,11 @@ pub at_end : (setup : Setup) (u : Machine) (player next : Player) (h : ℕ) (mad
     → next.settings ≡ player.settings
     → is_done (progress_at player h) ≡ false
     → next.harts.items ≡ set player.harts.items h hart → next.progress.items ≡ set player.progress.items h progress.Begun
-    → next.lines ≡ player.lines
+    → next.memory ≡ player.memory
     → length next.run.engines.items ≡ length player.run.engines.items
     → splitting_of next.run ≡ split_event default_plan (splitting_of player.run) (does h (what.End made))
     → IsAt setup (step setup u h) next
-at_end setup u player next h made after hart below at ends there_in same before harts fars lines engines run =
+at_end setup u player next h made after hart below at ends there_in same before harts fars memory engines run =
     let within : h < length u.harts = omega (arith, below, at.halves) in
     let in_progress : h < length player.progress.items = omega (arith, below, at.progress) in
     let in_harts : h < length player.harts.items = omega (arith, below, at.harts) in
@@ -234,7 +238,7 @@ at_end setup u player next h made after hart below at ends there_in same before 
           (λ k apart. ap (λ (xs : List Progress). get_or xs k progress.Begun) fars ∙ get_or-set_other player.progress.items h k progress.Begun progress.Begun apart)
           here;
       run = split_push default_plan setup.harts u.events (does h (what.End made)) ∙ ap (λ p. split_event default_plan p (does h (what.End made))) at.run ∙ sym run;
-      memory = let Keeping : Bank → Type 0 = λ bank. Keeps setup u.ram bank in subst Keeping (sym lines) at.memory;
+      memory = let Serving : Memory → Type 0 = λ m. Serves setup u.ram u.devices m in subst Serving (sym memory) at.memory;
     })
 
 -- Why a run has ended.

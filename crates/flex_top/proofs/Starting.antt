@@ -15,9 +15,11 @@ use Rattle.hart_story.specs.Progress.{IsIn, IsSoundProgress, node, is_done}
 use Rattle.hart_story.specs.declared.hart.Hart.{Hart}
 use Rattle.hart_story.specs.declared.progress.Progress.{Progress}
 use Rattle.mem_lines.specs.Bank.{Bank}
+use Rattle.flex_base.proofs.Beginning.{begins_fit}
 use Rattle.flex_base.proofs.Machines.{instruction_at-begin}
 use Rattle.flex_top.specs.Answer.{setup_of}
-use Rattle.flex_top.specs.Memory.{Keeps}
+use Rattle.flex_top.specs.Memory.{Keeps, Serves}
+use Rattle.flex_top.specs.declared.memory.Memory.{Memory}
 use Rattle.flex_top.specs.Play.{IsHart, IsAt, IsStarted, progress_at, layout_of}
 use Rattle.flex_top.specs.declared.player.Player.{Player}
 use Rattle.flex_top.proofs.Writing.{split_none}
@@ -41,14 +43,16 @@ pub starts : (image : Loaded) (settings : Settings) (player : Player) (bank : Ba
     → IsAt (setup_of image settings) (begin (setup_of image settings)) player
 starts image settings player bank lawful begins aligned keeps =
     let setup = setup_of image settings in
-    let Kept : Bank → Type 0 = λ b. Keeps setup [] b in
+    let Served : Memory → Type 0 = λ m. Serves setup [] [] m in
+    let first : Memory = record { lines = bank; time = 0 } in
+    let serves : Serves setup [] [] first = record { ram = keeps; time = refl } in
     let each = λ (h : ℕ) (other : Hart) (below : h < setup.harts).
     let hart = get_or player.harts.items h other in
     let Sound : Progress → Type 0 = λ p. IsSoundProgress (layout_of settings) hart p in
     let there : IsIn setup (instruction_from (start h image.entry)) hart (progress_at player h) (layout_of settings) settings.budget = record {
       of = record { harts = refl; ram = refl; budget_is = refl; whole = lawful_whole settings lawful };
       stands = begins.harts.each h other below;
-      fit = record { aligned = aligned; within = omega arith; reserved = tt };
+      fit = begins_fit setup.harts setup.ram setup.budget h image.entry below aligned;
       reached = ap (node setup (start h image.entry)) (sym (begins.progress.1 h));
       sound = subst Sound (sym (begins.progress.1 h)) tt;
     } in
@@ -66,5 +70,5 @@ starts image settings player bank lawful begins aligned keeps =
       engines = ap (λ (p : Splitting). length p.engines) begins.run ∙ length-map-range_with_len (λ h. default_plan h class.Fetch) 0 settings.harts;
       each = each;
       run = split_none default_plan setup.harts ∙ sym begins.run;
-      memory = subst Kept (sym begins.lines) keeps;
+      memory = subst Served (sym begins.memory) serves;
     }

@@ -16,7 +16,7 @@ use Rattle.hart_story.specs.declared.hart.Hart.{Hart}
 use Rattle.hart_story.specs.declared.progress.Progress.{Progress}
 use Rattle.hart_story.specs.declared.progress.Progress.TheVariants as progress
 use Rattle.mem_lines.specs.Bank.{Bank}
-use Rattle.flex_top.specs.Memory.{Keeps}
+use Rattle.flex_top.specs.Memory.{Serves}
 use Rattle.flex_top.specs.Splitting.{splitting_of}
 use Rattle.flex_top.specs.Trace.{settings_of}
 use Rattle.flex_top.specs.declared.player.Player.{Player}
@@ -49,7 +49,7 @@ pub record IsAt (setup : Setup) (u : Machine) (player : Player) : Type 0 where
   pub each : (h : ℕ) (other : Hart) → h < setup.harts
       → IsHart setup u h (slice_index_or player.harts.items h other) (progress_at player h)
   pub run : split_run default_plan setup.harts u.events ≡ splitting_of player.run
-  pub memory : Keeps setup u.ram player.lines
+  pub memory : Serves setup u.ram u.devices player.memory
 
 -- of a call that was stuck, what holds of the pc of the event that isn't built; of want of memory nothing
 abbrev pub AtUnbuilt : Stuck → (ℕ → Type 0) → Type 0
@@ -130,4 +130,4 @@ pub record IsStarted (player : Player) (settings : Settings) (entry : ℕ) (bank
   pub harts : AreStarted entry settings.harts player.harts.items
   pub progress : (length player.progress.items ≡ settings.harts) × ((h : ℕ) → progress_at player h ≡ progress.Begun)
   pub run : splitting_of player.run ≡ first_split default_plan settings.harts
-  pub lines : player.lines ≡ bank
+  pub memory : player.memory ≡ record { lines = bank; time = 0 }

@@ -1,8 +1,10 @@
 -- The lines after the events, of a state of the machine.
-use Rattle.std.specs.Prelude.{ℕ, ◌<◌, ◌==◌, if◌then◌else◌, List, [], ◌∷◌, ◌++◌, length, slice_index, slice_index_or, Option, None, Some}
+use Rattle.std.specs.Prelude.{ℕ, ◌<◌, ◌==◌, if◌then◌else◌, List, [], ◌∷◌, ◌++◌, length, slice_index, slice_index_or, Option, None, Some, unwrap_or}
 use Rattle.std.specs.List.{flat_map, filter_map, range_with_len}
 use Rattle.sha2.specs.Sha256.{sha256}
+use Rattle.flex_base.specs.Csrs.{csr_read}
 use Rattle.flex_base.specs.State.{State}
+use Rattle.flex_base.specs.declared.hart.Mode.TheVariants as mode
 use Rattle.flex_base.specs.declared.event.Stop.{Stop}
 use Rattle.hart_story.specs.StandsFor.{StandsFor}
 use Rattle.hart_story.specs.declared.hart.Hart.{Hart}
@@ -17,12 +19,9 @@ state_line h a = tail.Hart (record { 0 = h }) a.ends a.mode a.pc
 abbrev pub register_line : ℕ → State → ℕ → Option TailLine
 register_line h a r = if slice_index a.x r == 0 then None else Some (tail.Reg (record { 0 = h }) r (slice_index a.x r))
 
--- what a CSR holds while no instruction reaches CSRs: mstatus tells 64-bit S and U modes, mcycle and minstret count the
--- ends (Volume II, "Machine Status Registers" and "Hardware Performance Monitor")
-abbrev pub csr_value : State → ℕ → ℕ
-csr_value a number =
-    if number == 0x300 then 0xa00000000 else
-    (if number == 0xb00 then a.ends else (if number == 0xb02 then a.ends else 0))
+-- what a CSR is read as in mode M, with the interrupt lines as the hart last knew them
+unfoldable pub csr_value : State → ℕ → ℕ
+csr_value a number = unwrap_or (csr_read a.csrs number mode.M a.lines 0) 0
 
 -- a CSR, where it isn't 0
 abbrev pub csr_line : ℕ → State → ℕ → Option TailLine

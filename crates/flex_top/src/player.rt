@@ -6,7 +6,7 @@ ghost use Rattle.hart_story.specs.Progress.{is_done};
 ghost use Rattle.flex_top.specs.Play.{AreStarted};
 ghost use Rattle.flex_top.specs.declared.player.Stuck.TheVariants as stuck;
 
-use crate::memory::act;
+use crate::memory::Memory;
 use crate::split_run::SplitRun;
 use crate::text::Tail;
 use flex_base::{HartId, Layout, Settings, Stop, What};
@@ -14,7 +14,7 @@ use hart_story::{Hart, Need, Progress, finish, give, need};
 use mem_lines::Lines;
 use std::alloc::{AllocError, Global};
 
-/// All harts of a run over one bank of RAM, and the split run so far.
+/// All harts of a run, what they reach, and the split run so far.
 #[derive(Drop)]
 pub(crate) struct Player {
     settings: Settings,
@@ -22,7 +22,7 @@ pub(crate) struct Player {
     harts: Vec<Hart>,
     /// How far each hart is in its instruction.
     progress: Vec<Progress>,
-    lines: Lines,
+    memory: Memory,
     pub(crate) run: SplitRun,
 }
 
@@ -78,7 +78,7 @@ impl Player {
             settings: *settings,
             harts,
             progress,
-            lines,
+            memory: Memory { lines, time: 0 },
             run,
         })
     }
@@ -104,7 +104,7 @@ impl Player {
         requires { (setup : Setup) × (u : Machine) × IsAt setup u self.now }
         ensures { (setup : Setup) (u : Machine) → IsAt setup u self.now → tail.new ≡ tail_of setup u }
     {
-        tail.fill(self.stop(), &self.harts, self.lines.bytes());
+        tail.fill(self.stop(), &self.harts, self.memory.lines.bytes());
     }
 
     // Why the run has ended, where it has.
@@ -190,7 +190,7 @@ impl Player {
         let budget = self.settings.budget;
         match need(&self.harts[h], &self.progress[h], &layout, budget) {
             Need::Ask(access, class) => {
-                let told = act(&mut self.lines, hart, &access);
+                let told = self.memory.act(hart, &access);
                 give(&self.harts[h], &mut self.progress[h], &layout, budget, told);
                 self.run.add(hart, class, What::Acc(access, told))?;
                 Ok(Step::Accessed)

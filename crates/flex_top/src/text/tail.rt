@@ -5,7 +5,7 @@ ghost use Rattle.hart_story.specs.StandsFor.{StandsFor};
 ghost use Rattle.flex_top.specs.Tail.{state_line, register_line, csr_line, csr_value};
 
 use crate::text::tail_text::TailLine;
-use flex_base::{HartId, Stop};
+use flex_base::{HartId, Mode, Stop};
 use hart_story::Hart;
 use sha2::{Digest, Sha256};
 use std::alloc::{AllocError, Global};
@@ -13,12 +13,6 @@ use std::marker::Model;
 
 // A stop, 32 harts of a line, 31 registers and 20 CSRs each, the digest and the end.
 const MOST_LINES: usize = 1_667;
-
-const MSTATUS: u16 = 0x300;
-
-const MCYCLE: u16 = 0xb00;
-
-const MINSTRET: u16 = 0xb02;
 
 // The numbers of the CSRs that a trace shows, in its order.
 const SHOWN_CSRS: [u16; 20] = [
@@ -172,15 +166,13 @@ fn ram_line(ram: &[u8]) -> TailLine
     TailLine::Ram(Sha256::digest(ram))
 }
 
-// While no instruction reaches CSRs: mstatus tells 64-bit S and U modes, and the ends are counted.
+// As it is read in mode M. The time isn't shown, so it doesn't matter.
+#[tactic(auto, unfolding(crate::specs::Tail::csr_value))]
 fn csr_value(hart: &Hart, number: u16) -> u64
     ensures { (a : State) → StandsFor hart.now a → result ≡ csr_value a number }
 {
-    if number == MSTATUS {
-        0xa_0000_0000
-    } else if number == MCYCLE || number == MINSTRET {
-        hart.regs.ends
-    } else {
-        0
+    match hart.csrs.read(number, Mode::M, hart.regs.lines, 0) {
+        Ok(value) => value,
+        Err(_) => 0,
     }
 }

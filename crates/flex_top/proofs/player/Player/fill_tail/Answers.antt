@@ -20,4 +20,4 @@ returns c = λ setup u at.
     c.fill.ensures state stand
     ∙ ap (λ (s : Option Stop). tail_lines s (length harts) state bytes) (c.stop.ensures setup u at)
     ∙ ap (λ (n : ℕ). tail_lines (stop_of setup.harts u.devices) n state bytes) count
-    ∙ ap (tail_lines (stop_of setup.harts u.devices) setup.harts state) (ram_is setup u bytes (c.bytes.ensures.whole setup u.ram at.memory.replay at.memory.alone.banks_are))
+    ∙ ap (tail_lines (stop_of setup.harts u.devices) setup.harts state) (ram_is setup u bytes (c.bytes.ensures.whole setup u.ram at.memory.ram.replay at.memory.ram.alone.banks_are))

@@ -18,7 +18,7 @@ use Rattle.hart_story.specs.declared.progress.Need.TheVariants as need
 use Rattle.hart_story.specs.declared.progress.Progress.TheVariants as progress
 use Rattle.hart_story.proofs.Asking.{ends_not_done}
 use Rattle.hart_story.proofs.Needing.{needs_ask, needs_finish, needs_later}
-use Rattle.flex_top.specs.Memory.{Keeps, ram_after}
+use Rattle.flex_top.specs.Memory.{Serves, ram_after, devices_after}
 use Rattle.flex_top.specs.Play.{IsAt, progress_at, layout_of}
 use Rattle.flex_top.specs.Trace.{settings_of}
 use Rattle.flex_top.specs.Splitting.{splitting_of}
@@ -87,14 +87,14 @@ returns-in_ok-add-in-Ask-clause-after c = λ setup u at.
     let i = instruction_at u h in
     let told = c.in-Ask.ensures.told setup i (in_hart setup u player h c.index.result.now c.index-2.result.now at below c.index.ensures c.index-2.ensures) in
     let asks = needs_ask access c.in-Ask.class (want_of setup u h) told in
-    let reply : c.act-told.result ≡ reply_to setup u h access = c.act-told.ensures.flat setup u at.memory in
+    let reply : c.act-told.result ≡ reply_to setup u h access = c.act-told.ensures.reply setup u at.memory in
     let there = in_hart setup u player h c.index-in-Ask.result.now c.index_mut.result.now at below c.index-in-Ask.ensures c.index_mut.ensures.value in
     let After : Reply → Type 0 = λ r. IsIn setup (record i { replies = i.replies ++ r ∷ [] }) c.index-in-Ask.result.now c.give.new.progress (layout_of player.settings) player.settings.budget in
     let given = subst After reply (c.give.ensures.reached setup i access there asks) in
     let Of : Hart → Type 0 = λ x. IsIn setup (record i { replies = i.replies ++ reply_to setup u h access ∷ [] }) x c.give.new.progress (layout_of (settings_of setup)) setup.budget in
     let hart = λ (other : Hart). subst Of (sym (hart_read player.harts.items h c.index-in-Ask.result.now other in_harts c.index-in-Ask.ensures)) (in_setup setup u player _ _ _ at given) in
-    let Kept : Reply → Type 0 = λ r. Keeps setup (ram_after u.ram h access r) c.act-told.new.lines in
-    let memory = subst Kept reply (c.act-told.ensures.keeps setup u at.memory) in
+    let Kept : Reply → Type 0 = λ r. Serves setup (ram_after u.ram h access r) (devices_after u.devices h access r) c.act-told.new.self in
+    let memory = subst Kept reply (c.act-told.ensures.serves setup u at.memory) in
     let over = c.give.ensures.over setup i access there asks c.act-told.ensures.form
     ∙ ap (λ (r : Reply). is_retire access || r.stop) reply ∙ ap (λ b. is_retire access || b) (tells_no_stop setup u h access) ∙ or_false (is_retire access) in
     let run = c.in_ok-add-in-Ask.ensures.event ∙ ap (λ r. split_event default_plan (splitting_of player.run) (does h (what.Acc access r))) reply in
