@@ -100,9 +100,11 @@ module _ (setup : Setup) (own : Option ℕ) (a : State) (held : IsOwn own a.rese
 
   asks_csr_reserves : (does : CsrOp) (rd rs1 number : ℕ) → Reserves own (asks_csr a does rd rs1 number)
   asks_csr_reserves does rd rs1 number =
-      either own (is_pending_csr number) _ _
-      (tt, λ reply. either own reply.stop StaysOver _ tt
-      (updates_csr_reserves reply.lines does rd rs1 number (csr_value a number reply.lines 0)))
+      either own (is_pending_csr number) _ _ (
+        tt,
+        λ reply. either own reply.stop StaysOver _ tt
+            (updates_csr_reserves reply.lines does rd rs1 number (csr_value a number reply.lines 0)),
+      )
       (either own (number == CSR_TIME) _ _
       (tt, λ reply. updates_csr_reserves a.lines does rd rs1 number (csr_value a number 0 reply.value))
       (updates_csr_reserves a.lines does rd rs1 number (csr_value a number 0 0)))

@@ -3,7 +3,7 @@ use Rattle.std.proofs.Common.{◌≡◌, ℕ, Some, refl, sym, subst, ◌∙◌}
 use Rattle.flex_top.specs.Does.{Does}
 use Rattle.flex_top.specs.Words.{Reading, reading_of_command}
 use Rattle.flex_top.specs.declared.status.Status.TheVariants as status
-use Rattle.flex_top.specs.declared.status.ImageFault.TheVariants as image
+use Rattle.image_loader.specs.declared.fault.ImageFault.TheVariants as image
 use Rattle.flex_top.proofs.Doing.{does_solo, does_unread, does_too_long, does_wanting}
 use Rattle.flex_top.proofs.top.flex_top.Goals as goal
 

@@ -8,9 +8,8 @@ overflow_sub-last c = some_digit c.self.inside.count c.self.inside.digits c.self
 pub invariant_of-self : goal.invariant_of-self
 invariant_of-self c =
     let n = c.self.inside in
-    let next : n.value + 1 ≡ c.args.value = omega (arith, c.if-self-value.true, c.if-value-self-eq1.true) in
-    (
+    let next : n.value + 1 ≡ c.args.value = omega (arith, c.if-self-value.true, c.if-value-self-eq1.true) in (
       c.self.invariant.0,
       counted n.count n.digits n.value (omega (arith, next, c.ranges.value)) (some_digit n.count n.digits n.value (omega (arith, c.self.ranges)) c.self.invariant.1) (omega (arith, c.self.invariant.0, c.self.told)) c.self.invariant.1 c.if-self-last-lt57.true
-      ∙ ap (λ (m : ℕ). decimal m) next,
+          ∙ ap (λ (m : ℕ). decimal m) next,
     )

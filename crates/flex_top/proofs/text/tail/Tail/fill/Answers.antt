@@ -1,7 +1,9 @@
-use Rattle.std.proofs.Common.{◌≡◌, ℕ, List, [], ◌∷◌, ◌++◌, length, ap, sym, ◌∙◌, arith, append_assoc}
+use Rattle.std.proofs.Common.{◌≡◌, ℕ, List, [], ◌∷◌, ◌++◌, length, ap, sym, subst, ◌∙◌, arith, append_assoc}
 use Rattle.std.specs.List.{flat_map, range_with_len}
 use Rattle.std.proofs.lemmas.List.{append-nil}
 use Rattle.sha2.specs.Sha256.{sha256}
+use Rattle.hart_story.specs.StandsFor.{StandsFor}
+use Rattle.hart_story.specs.declared.hart.Hart.{Hart}
 use Rattle.flex_top.specs.Tail.{hart_lines, tail_lines}
 use Rattle.flex_top.specs.declared.text.tail_text.TailLine.{TailLine}
 use Rattle.flex_top.specs.declared.text.tail_text.TailLine.TheVariants as tail
@@ -22,7 +24,8 @@ loop-h-preserved c = record {
   lines = λ state stand.
       let h = c.loop-h.h in
       let text : ℕ → List TailLine = λ n. hart_lines n (state n) in
-      c.push_hart.ensures.lines (state h) (stand h _ (omega arith))
+      let Of : Hart → Type 0 = λ x. StandsFor x (state h) in
+      c.push_hart.ensures.lines (state h) (subst Of (sym c.index-harts-h.is) (stand h c.index-harts-h.result (omega arith)))
       ∙ ap (λ (ys : List TailLine). ys ++ text h) (c.loop-h.invariant.lines state stand)
       ∙ sym (lines_push text c.begin.new.self (range_with_len 0 h) h)
       ∙ ap (λ (ns : List ℕ). c.begin.new.self ++ flat_map text ns) (sym (range_more h));
