@@ -85,7 +85,8 @@ const ATOMICS: [u32; 20] = [
     0x1872b9af, 0x02630a33, 0x02735ab3, 0x02036b33,
 ];
 
-// The number of the last event says that of the four store-conditionals one makes an access: 20 fetches and ends, 9 accesses.
+// The last number tells that one of the four store-conditionals makes an access: 20 fetches, 20 ends, 9 accesses of data
+// and a handover come before it.
 const OF_ATOMICS: [&str; 17] = [
     " p amo max 0000000080000100 4 0000000000000001 00000000ffffffff\n",
     " p end atomic 0000000080000018 000000008000001c x8 ffffffffffffffff\n",
