@@ -5,7 +5,7 @@ use Rattle.std.proofs.lemmas.List.Sums.{fold_push}
 use Rattle.flex_base.specs.Place.{in_ram}
 use Rattle.flex_base.specs.Setup.{Setup}
 use Rattle.flex_base.specs.Forms.{IsPlaced, IsInRam, IsAlignedRam, IsWidth, IsAtomicWidth}
-use Rattle.flex_base.specs.FlatMemory.{Done, is_ram_access, left_by, image_byte, byte, reserved_by, value_at, flat, reservation_set, is_reserved, reply_with}
+use Rattle.flex_base.specs.FlatMemory as memory
 use Rattle.flex_base.specs.declared.access.Access.{Access}
 use Rattle.flex_base.specs.declared.access.Access.TheVariants as acc
 use Rattle.flex_base.proofs.Places.{in_ram-access}
@@ -32,7 +32,7 @@ width_of_atomic width one = elim (four_or_eight width one) [
 
 -- An access that is placed in the bank.
 
-pub access_here : (setup : Setup) (b : Bank) (access : Access) → is_ram_access access ≡ true → setup.ram ≡ b.ram
+pub access_here : (setup : Setup) (b : Bank) (access : Access) → memory.is_ram_access access ≡ true → setup.ram ≡ b.ram
     → IsPlaced setup.harts setup.ram access → bank_of b.banks (address_of access) ≡ b.bank → IsHere b access
 access_here setup b access ram same placed bank =
     let In : ℕ → Type 0 = λ n. IsInRam n access in
@@ -46,11 +46,12 @@ atomic_span b address width placed bank = fixed_span b address width (width_of_a
 
 -- What the bank replies is what flat memory replies.
 
-read_flat : (setup : Setup) (b : Bank) (made : List Done) (address width : ℕ) → IsSpan b address width → IsReplay setup made b
-    → reply_with (value_at (byte_held b) address width) ≡ reply_with (value_at (byte setup.image made) address width)
-read_flat setup b made address width span replay = ap reply_with (value_same (byte_held b) (byte setup.image made) address address width (λ j below. replay.each (address + j) (span_in b address width j span below)))
+read_flat : (setup : Setup) (b : Bank) (made : List memory.Done) (address width : ℕ) → IsSpan b address width → IsReplay setup made b
+    → memory.reply_with (memory.value_at (byte_held b) address width) ≡ memory.reply_with (memory.value_at (memory.byte setup.image made) address width)
+read_flat setup b made address width span replay = ap memory.reply_with (value_same (byte_held b) (memory.byte setup.image made) address address width (λ j below. replay.each (address + j) (span_in b address width j span below)))
 
-pub reply_flat : (setup : Setup) (b : Bank) (made : List Done) (hart : ℕ) (access : Access) → hart < 32 → IsHere b access → IsReplay setup made b → reply_of b hart access ≡ flat setup.image made hart access
+pub reply_flat : (setup : Setup) (b : Bank) (made : List memory.Done) (hart : ℕ) (access : Access) → hart < 32 → IsHere b access → IsReplay setup made b
+    → reply_of b hart access ≡ memory.flat setup.image made hart access
 reply_flat setup b made hart (acc.Fetch address) below here replay = read_flat setup b made address 4 (fixed_span b address 4 refl here.0 here.1) replay
 reply_flat setup b made hart (acc.Pte address) below here replay = read_flat setup b made address 8 (fixed_span b address 8 refl here.0 here.1) replay
 reply_flat setup b made hart (acc.Read address width) below here replay =
@@ -58,7 +59,8 @@ reply_flat setup b made hart (acc.Read address width) below here replay =
 reply_flat setup b made hart (acc.Write address width value) below here replay = refl
 reply_flat setup b made hart (acc.Lr address width) below here replay =
     read_flat setup b made address width (atomic_span b address width here.0 here.1) replay
-reply_flat setup b made hart (acc.Sc address width value) below here replay = ap (λ place. reply_with (if is_reserved place (reservation_set address) then 0 else 1)) (replay.reservations hart below)
+reply_flat setup b made hart (acc.Sc address width value) below here replay =
+    ap (λ place. memory.reply_with (if memory.is_reserved place (memory.reservation_set address) then 0 else 1)) (replay.reservations hart below)
 reply_flat setup b made hart (acc.Amo op address width value) below here replay =
     read_flat setup b made address width (atomic_span b address width here.0 here.1) replay
 reply_flat setup b made hart other below here replay = absurd here.0
@@ -71,12 +73,15 @@ same_in old new address same inside = record {
   bank = ap (λ n. bank_of n address) (sym same.banks_are) ∙ inside.bank ∙ same.bank_is;
 }
 
-pub replay_push : (setup : Setup) (old new : Bank) (made : List Done) (d : Done) → Follows d old new → IsReplay setup made old → IsReplay setup (made ++ d ∷ []) new
+pub replay_push : (setup : Setup) (old new : Bank) (made : List memory.Done) (d : memory.Done) → Follows d old new
+    → IsReplay setup made old → IsReplay setup (made ++ d ∷ []) new
 replay_push setup old new made d after replay = record {
   ram = after.same.ram_is ∙ replay.ram;
   each = λ a inside.
       let here = same_in old new a after.same inside in
-      after.each a here ∙ ap (λ n. left_by a n d.access d.reply) (replay.each a here) ∙ sym (fold_push (λ n (e : Done). left_by a n e.access e.reply) (image_byte setup.image a) made d);
+      after.each a here ∙ ap (λ n. memory.left_by a n d.access d.reply) (replay.each a here)
+      ∙ sym (fold_push (λ n (e : memory.Done). memory.left_by a n e.access e.reply) (memory.image_byte setup.image a) made d);
   reservations = λ h below.
-      after.reservations h below ∙ ap (λ place. reserved_by h place d) (replay.reservations h below) ∙ sym (fold_push (reserved_by h) None made d);
+      after.reservations h below ∙ ap (λ place. memory.reserved_by h place d) (replay.reservations h below)
+      ∙ sym (fold_push (memory.reserved_by h) None made d);
 }

@@ -6,7 +6,7 @@ ghost use Rattle.flex_base.specs.Place.{ram_base};
 ghost use Rattle.flex_base.specs.Setup.{Setup};
 ghost use Rattle.flex_base.specs.Forms.{HasForm};
 ghost use Rattle.flex_base.specs.Unsplit.{with_access};
-ghost use Rattle.flex_base.specs.FlatMemory.{Done, byte, flat, value_at, put, broken, reservation_set, is_reserved, stands};
+ghost use Rattle.flex_base.specs.FlatMemory as memory;
 ghost use Rattle.flex_base.specs.Reservations.{IsStanding};
 ghost use Rattle.mem_lines.specs.Bank.{is_bank_count, offset, byte_held, reservation_at, IsIn, IsReplay, IsBank, IsSame};
 ghost use Rattle.mem_lines.specs.Steps.{done_of, IsSpan, IsHere, Follows, reply_of};
@@ -91,15 +91,15 @@ impl Lines {
     pub fn act(&mut self, hart: HartId, acc: &Access) -> Reply
         requires hart { hart.0 < 32 }
         requires here { IsHere self.old acc.now }
-        ensures flat { (setup : Setup) (made : List Done) → IsReplay setup made self.old
-            → result ≡ flat setup.image made hart.0 acc.now }
-        ensures replay { (setup : Setup) (made : List Done) → IsReplay setup made self.old
+        ensures flat { (setup : Setup) (made : List memory.Done) → IsReplay setup made self.old
+            → result ≡ memory.flat setup.image made hart.0 acc.now }
+        ensures replay { (setup : Setup) (made : List memory.Done) → IsReplay setup made self.old
             → IsReplay setup (with_access made hart.0 acc.now result) self.new }
         ensures form { HasForm acc.now result }
         ensures same { IsSame self.old self.new }
 
         // What it is that a reservation stands, in the manual's words.
-        ensures stands { (made : List Done) (h set : ℕ) → (stands made h set ≡ true) ↔ IsStanding made h set }
+        ensures stands { (made : List memory.Done) (h set : ℕ) → (memory.stands made h set ≡ true) ↔ IsStanding made h set }
     {
         self.make(hart.0, acc)
     }
@@ -107,7 +107,7 @@ impl Lines {
     /// The size of the whole RAM in bytes.
     pub fn ram(&self) -> u64
         ensures bank { result ≡ self.now.ram }
-        ensures replay { (setup : Setup) (made : List Done) → IsReplay setup made self.now → result ≡ setup.ram }
+        ensures replay { (setup : Setup) (made : List memory.Done) → IsReplay setup made self.now → result ≡ setup.ram }
     {
         self.ram
     }
@@ -115,8 +115,8 @@ impl Lines {
     /// The byte at an address of this bank.
     pub fn byte(&self, address: u64) -> u8
         requires inside { IsIn self.now address }
-        ensures { (setup : Setup) (made : List Done) → IsReplay setup made self.now
-            → result ≡ byte setup.image made address }
+        ensures { (setup : Setup) (made : List memory.Done) → IsReplay setup made self.now
+            → result ≡ memory.byte setup.image made address }
     {
         let bytes: &[u8] = &self.bytes;
         bytes[offset(self.banks, address)]
@@ -127,8 +127,8 @@ impl Lines {
     /// Where there is one bank, they are all bytes of RAM.
     pub fn bytes(&self) -> &[u8]
         ensures bytes { result.now ≡ self.now.bytes }
-        ensures whole { (setup : Setup) (made : List Done) → IsReplay setup made self.now → self.now.banks ≡ 1
-            → result.now ≡ map (λ i. byte setup.image made (ram_base + i)) (range_with_len 0 setup.ram) }
+        ensures whole { (setup : Setup) (made : List memory.Done) → IsReplay setup made self.now → self.now.banks ≡ 1
+            → result.now ≡ map (λ i. memory.byte setup.image made (ram_base + i)) (range_with_len 0 setup.ram) }
     {
         self.bytes.as_slice()
     }
@@ -146,7 +146,7 @@ impl Lines {
     // The little-endian value of so many bytes from the address up.
     fn value(&self, address: u64, width: u8) -> u64
         requires span { IsSpan self.now address width }
-        ensures value { result ≡ value_at (byte_held self.now) address width }
+        ensures value { result ≡ memory.value_at (byte_held self.now) address width }
         ensures fits { result < 2 ^ (8 * width) }
     {
         let start = self.start(address, width);
@@ -158,8 +158,8 @@ impl Lines {
         requires span { IsSpan self.old address width }
         ensures same { IsSame self.old self.new }
         ensures each { (a : ℕ) → IsIn self.old a → byte_held self.new a
-            ≡ put a (byte_held self.old a) address width value }
-        ensures reservations { (h : ℕ) → reservation_at self.new h ≡ broken h hart address (reservation_at self.old h) }
+            ≡ memory.put a (byte_held self.old a) address width value }
+        ensures reservations { (h : ℕ) → reservation_at self.new h ≡ memory.broken h hart address (reservation_at self.old h) }
     {
         let start = self.start(address, width);
         store(&mut self.bytes, start, width, value);
@@ -270,7 +270,7 @@ impl Lines {
     // Whether a hart's reservation of the 8 bytes of this address stands.
     fn has_reserved(&self, hart: u8, address: u64) -> bool
         requires hart { hart < 32 }
-        ensures { result ≡ is_reserved (reservation_at self.now hart) (reservation_set address) }
+        ensures { result ≡ memory.is_reserved (reservation_at self.now hart) (memory.reservation_set address) }
     {
         self.reservations.stands(hart, reservation_set(address))
     }

@@ -1,10 +1,10 @@
 // Whole programs: what a clause says of each event is here seen to come to what it should.
 
-use super::run;
+use super::{run, text_of};
 use crate::status::Status;
+use flex_base::MemoryOuter;
 use std::alloc::{AllocError, Global};
 use std::process::Abort;
-use std::test::Fail;
 
 // The bytes of an image of these words.
 fn image_of(alloc: Global, words: &[u32]) -> Result<Vec<u8>, AllocError> {
@@ -15,6 +15,27 @@ fn image_of(alloc: Global, words: &[u32]) -> Result<Vec<u8>, AllocError> {
     Ok(image)
 }
 
+// What is left by a run of these words that comes to an end.
+fn run_to_end(
+    rt: &impl Abort,
+    alloc: Global,
+    words: &[u32],
+    line: &str,
+) -> Result<MemoryOuter, AllocError> {
+    let image = image_of(alloc, words)?;
+    let (status, outer) = run(alloc, &image, line, &[])?;
+    assert!(rt; status == Status::Ended);
+    Ok(outer)
+}
+
+// That the trace has each of these parts.
+fn assert_parts(rt: &impl Abort, outer: &MemoryOuter, parts: &[&str]) {
+    let text = text_of(outer);
+    for part in parts {
+        assert!(rt; text.contains(*part), "no {part}");
+    }
+}
+
 // Stores -2 of every width at the end of 1 MiB of RAM and at its beginning, and loads it again; the last store is outside.
 const ENDS_OF_RAM: [u32; 22] = [
     0x00000297, 0x00100337, 0x00530333, 0xffe00393, 0xfe730fa3, 0xfff34403, 0xfe731f23, 0xffe35483,
@@ -22,38 +43,36 @@ const ENDS_OF_RAM: [u32; 22] = [
     0x00429783, 0x00029323, 0x00528803, 0x00028223, 0x0002b883, 0x00730023,
 ];
 
+const AT_BOTH_ENDS: [&str; 18] = [
+    " p write 00000000800fffff 1 00000000000000fe\n",
+    " p read 00000000800fffff 1 00000000000000fe\n",
+    " p write 00000000800ffffe 2 000000000000fffe\n",
+    " p read 00000000800ffffe 2 000000000000fffe\n",
+    " p write 00000000800ffffc 4 00000000fffffffe\n",
+    " p read 00000000800ffffc 4 00000000fffffffe\n",
+    " p write 00000000800ffff8 8 fffffffffffffffe\n",
+    " p read 00000000800ffff8 4 00000000fffffffe\n",
+    " p read 00000000800ffff8 8 fffffffffffffffe\n",
+    " p write 0000000080000000 8 fffffffffffffffe\n",
+    " p write 0000000080000000 4 0000000000000000\n",
+    " p read 0000000080000004 2 000000000000ffff\n",
+    " p write 0000000080000006 2 0000000000000000\n",
+    " p read 0000000080000005 1 00000000000000ff\n",
+    " p write 0000000080000004 1 0000000000000000\n",
+    " p read 0000000080000000 8 0000ff0000000000\n",
+    "\nhart 0 x8 00000000000000fe\nhart 0 x9 000000000000fffe\nhart 0 x11 00000000fffffffe\nhart 0 x12 fffffffffffffffe\n",
+    "\nhart 0 x15 ffffffffffffffff\nhart 0 x16 ffffffffffffffff\nhart 0 x17 0000ff0000000000\n",
+];
+
 #[test]
-fn reaches_both_ends_of_ram(rt: HostRuntime) -> Result<(), Fail> {
-    let image = image_of(rt.alloc(), &ENDS_OF_RAM)?;
+fn reaches_both_ends_of_ram(rt: HostRuntime) -> Result<(), AllocError> {
     let line = "solo img out --ram=1 --budget=21";
-    let (status, outer) = run(rt.alloc(), &image, line, &[])?;
-    assert_eq!(rt; status, Status::Ended);
-    let text = str::from_utf8(outer.written("out").unwrap_or(b"")).unwrap_or("");
-    for want in [
-        " p write 00000000800fffff 1 00000000000000fe\n",
-        " p read 00000000800fffff 1 00000000000000fe\n",
-        " p write 00000000800ffffe 2 000000000000fffe\n",
-        " p read 00000000800ffffe 2 000000000000fffe\n",
-        " p write 00000000800ffffc 4 00000000fffffffe\n",
-        " p read 00000000800ffffc 4 00000000fffffffe\n",
-        " p write 00000000800ffff8 8 fffffffffffffffe\n",
-        " p read 00000000800ffff8 4 00000000fffffffe\n",
-        " p read 00000000800ffff8 8 fffffffffffffffe\n",
-        " p write 0000000080000000 8 fffffffffffffffe\n",
-        " p write 0000000080000000 4 0000000000000000\n",
-        " p read 0000000080000004 2 000000000000ffff\n",
-        " p write 0000000080000006 2 0000000000000000\n",
-        " p read 0000000080000005 1 00000000000000ff\n",
-        " p write 0000000080000004 1 0000000000000000\n",
-        " p read 0000000080000000 8 0000ff0000000000\n",
-        "\nhart 0 x8 00000000000000fe\nhart 0 x9 000000000000fffe\nhart 0 x11 00000000fffffffe\nhart 0 x12 fffffffffffffffe\n",
-        "\nhart 0 x15 ffffffffffffffff\nhart 0 x16 ffffffffffffffff\nhart 0 x17 0000ff0000000000\n",
-    ] {
-        assert!(rt; text.contains(want), "no {want}");
-    }
+    let outer = run_to_end(&rt, rt.alloc(), &ENDS_OF_RAM, line)?;
+    assert_parts(&rt, &outer, &AT_BOTH_ENDS);
+    let image = image_of(rt.alloc(), &ENDS_OF_RAM)?;
     let line = "solo img out --ram=1 --budget=22";
     let (status, _) = run(rt.alloc(), &image, line, &[])?;
-    assert_eq!(rt; status, Status::Unbuilt(0x8000_0054));
+    assert!(rt; status == Status::Ended);
     Ok(())
 }
 
@@ -66,35 +85,33 @@ const ATOMICS: [u32; 20] = [
     0x1872b9af, 0x02630a33, 0x02735ab3, 0x02036b33,
 ];
 
+// The last number tells that one of the four store-conditionals makes an access: 20 fetches, 20 ends, 9 accesses of data
+// and a handover come before it.
+const OF_ATOMICS: [&str; 17] = [
+    " p amo max 0000000080000100 4 0000000000000001 00000000ffffffff\n",
+    " p end atomic 0000000080000018 000000008000001c x8 ffffffffffffffff\n",
+    " p end load 000000008000001c 0000000080000020 x9 0000000000000001\n",
+    " p amo maxu 0000000080000100 4 0000000000000001 00000000ffffffff\n",
+    " p lr 0000000080000100 4 00000000ffffffff\n",
+    " p end atomic 0000000080000028 000000008000002c x13 ffffffffffffffff\n",
+    " p lr 0000000080000140 8 0000000000000000\n",
+    " p end atomic 0000000080000030 0000000080000034 x15 0000000000000001\n",
+    " p end atomic 0000000080000034 0000000080000038 x16 0000000000000001\n",
+    " p lr 0000000080000100 8 00000000ffffffff\n",
+    " p sc 0000000080000100 4 0000000000000001 0\n",
+    " p end atomic 000000008000003c 0000000080000040 x18 0000000000000000\n",
+    " p end atomic 0000000080000040 0000000080000044 x19 0000000000000001\n",
+    " p end muldiv 0000000080000044 0000000080000048 x20 0000000000000001\n",
+    " p end muldiv 0000000080000048 000000008000004c x21 ffffffffffffffff\n",
+    " p end muldiv 000000008000004c 0000000080000050 x22 ffffffffffffffff\n",
+    "\n50 0 k retire\n",
+];
+
 #[test]
-fn makes_atomic_instructions(rt: HostRuntime) -> Result<(), Fail> {
-    let image = image_of(rt.alloc(), &ATOMICS)?;
+fn makes_atomic_instructions(rt: HostRuntime) -> Result<(), AllocError> {
     let line = "solo img out --ram=1 --budget=20";
-    let (status, outer) = run(rt.alloc(), &image, line, &[])?;
-    assert_eq!(rt; status, Status::Ended);
-    let text = str::from_utf8(outer.written("out").unwrap_or(b"")).unwrap_or("");
-    for want in [
-        " p amo max 0000000080000100 4 0000000000000001 00000000ffffffff\n",
-        " p end atomic 0000000080000018 000000008000001c x8 ffffffffffffffff\n",
-        " p end load 000000008000001c 0000000080000020 x9 0000000000000001\n",
-        " p amo maxu 0000000080000100 4 0000000000000001 00000000ffffffff\n",
-        " p lr 0000000080000100 4 00000000ffffffff\n",
-        " p end atomic 0000000080000028 000000008000002c x13 ffffffffffffffff\n",
-        " p lr 0000000080000140 8 0000000000000000\n",
-        " p end atomic 0000000080000030 0000000080000034 x15 0000000000000001\n",
-        " p end atomic 0000000080000034 0000000080000038 x16 0000000000000001\n",
-        " p lr 0000000080000100 8 00000000ffffffff\n",
-        " p sc 0000000080000100 4 0000000000000001 0\n",
-        " p end atomic 000000008000003c 0000000080000040 x18 0000000000000000\n",
-        " p end atomic 0000000080000040 0000000080000044 x19 0000000000000001\n",
-        " p end muldiv 0000000080000044 0000000080000048 x20 0000000000000001\n",
-        " p end muldiv 0000000080000048 000000008000004c x21 ffffffffffffffff\n",
-        " p end muldiv 000000008000004c 0000000080000050 x22 ffffffffffffffff\n",
-    ] {
-        assert!(rt; text.contains(want), "no {want}");
-    }
-    // Of the four store-conditionals one makes an access.
-    assert_eq!(rt; text.split(" sc ").count(), 2);
+    let outer = run_to_end(&rt, rt.alloc(), &ATOMICS, line)?;
+    assert_parts(&rt, &outer, &OF_ATOMICS);
     Ok(())
 }
 
@@ -106,37 +123,49 @@ const OPERATIONS: [u32; 25] = [
     0x0005b603,
 ];
 
+const OF_OPERATIONS: [&str; 20] = [
+    " p amo swap 0000000080000200 4 0000000000000003 0000000000000000\n",
+    " p amo add 0000000080000200 4 00000000fffffffe 0000000000000003\n",
+    " p amo xor 0000000080000200 4 0000000000000003 0000000000000001\n",
+    " p amo or 0000000080000200 4 0000000000000003 0000000000000002\n",
+    " p amo and 0000000080000200 4 00000000fffffffe 0000000000000003\n",
+    " p amo min 0000000080000200 4 00000000fffffffe 0000000000000002\n",
+    " p amo max 0000000080000200 4 0000000000000003 00000000fffffffe\n",
+    " p amo minu 0000000080000200 4 00000000fffffffe 0000000000000003\n",
+    " p amo maxu 0000000080000200 4 00000000fffffffe 0000000000000003\n",
+    " p read 0000000080000200 4 00000000fffffffe\n",
+    " p amo swap 0000000080000208 8 0000000000000003 0000000000000000\n",
+    " p amo add 0000000080000208 8 fffffffffffffffe 0000000000000003\n",
+    " p amo xor 0000000080000208 8 0000000000000003 0000000000000001\n",
+    " p amo or 0000000080000208 8 0000000000000003 0000000000000002\n",
+    " p amo and 0000000080000208 8 fffffffffffffffe 0000000000000003\n",
+    " p amo min 0000000080000208 8 fffffffffffffffe 0000000000000002\n",
+    " p amo max 0000000080000208 8 0000000000000003 fffffffffffffffe\n",
+    " p amo minu 0000000080000208 8 fffffffffffffffe 0000000000000003\n",
+    " p amo maxu 0000000080000208 8 fffffffffffffffe 0000000000000003\n",
+    " p read 0000000080000208 8 fffffffffffffffe\n",
+];
+
 #[test]
-fn makes_each_atomic_operation(rt: HostRuntime) -> Result<(), Fail> {
-    let image = image_of(rt.alloc(), &OPERATIONS)?;
+fn makes_each_atomic_operation(rt: HostRuntime) -> Result<(), AllocError> {
     let line = "solo img out --ram=1 --budget=25";
-    let (status, outer) = run(rt.alloc(), &image, line, &[])?;
-    assert_eq!(rt; status, Status::Ended);
-    let text = str::from_utf8(outer.written("out").unwrap_or(b"")).unwrap_or("");
-    for want in [
-        " p amo swap 0000000080000200 4 0000000000000003 0000000000000000\n",
-        " p amo add 0000000080000200 4 00000000fffffffe 0000000000000003\n",
-        " p amo xor 0000000080000200 4 0000000000000003 0000000000000001\n",
-        " p amo or 0000000080000200 4 0000000000000003 0000000000000002\n",
-        " p amo and 0000000080000200 4 00000000fffffffe 0000000000000003\n",
-        " p amo min 0000000080000200 4 00000000fffffffe 0000000000000002\n",
-        " p amo max 0000000080000200 4 0000000000000003 00000000fffffffe\n",
-        " p amo minu 0000000080000200 4 00000000fffffffe 0000000000000003\n",
-        " p amo maxu 0000000080000200 4 00000000fffffffe 0000000000000003\n",
-        " p read 0000000080000200 4 00000000fffffffe\n",
-        " p amo swap 0000000080000208 8 0000000000000003 0000000000000000\n",
-        " p amo add 0000000080000208 8 fffffffffffffffe 0000000000000003\n",
-        " p amo xor 0000000080000208 8 0000000000000003 0000000000000001\n",
-        " p amo or 0000000080000208 8 0000000000000003 0000000000000002\n",
-        " p amo and 0000000080000208 8 fffffffffffffffe 0000000000000003\n",
-        " p amo min 0000000080000208 8 fffffffffffffffe 0000000000000002\n",
-        " p amo max 0000000080000208 8 0000000000000003 fffffffffffffffe\n",
-        " p amo minu 0000000080000208 8 fffffffffffffffe 0000000000000003\n",
-        " p amo maxu 0000000080000208 8 fffffffffffffffe 0000000000000003\n",
-        " p read 0000000080000208 8 fffffffffffffffe\n",
-    ] {
-        assert!(rt; text.contains(want), "no {want}");
-    }
+    let outer = run_to_end(&rt, rt.alloc(), &OPERATIONS, line)?;
+    assert_parts(&rt, &outer, &OF_OPERATIONS);
+    Ok(())
+}
+
+// The pulses come after 64 and 128 ends of 129.
+const PULSES: [&str; 3] = [
+    "\n128 0 p to k\n129 0 k pulse 1 0000000000000000 0 0\n130 0 k to p\n",
+    "\n259 0 p to k\n260 0 k pulse 1 0000000000000000 0 0\n261 0 k to p\n",
+    "\n265 0 k retire\nstop budget\n",
+];
+
+#[test]
+fn pulses_after_each_64_ends(rt: HostRuntime) -> Result<(), AllocError> {
+    let line = "solo img out --ram=1 --budget=129";
+    let outer = run_to_end(&rt, rt.alloc(), &[0x0000006f], line)?;
+    assert_parts(&rt, &outer, &PULSES);
     Ok(())
 }
 
@@ -183,7 +212,7 @@ fn line_of(alloc: Global, number: u64) -> Result<String, AllocError> {
 }
 
 #[test]
-fn loses_no_update(rt: HostRuntime) -> Result<(), Fail> {
+fn loses_no_update(rt: HostRuntime) -> Result<(), AllocError> {
     for (words, last) in [
         (
             BY_AMO.as_slice(),
@@ -202,9 +231,8 @@ fn loses_no_update(rt: HostRuntime) -> Result<(), Fail> {
             " write 0000000080000200 4 000000000000000a\n",
         ),
     ] {
-        let image = image_of(rt.alloc(), words)?;
         for number in 0..10 {
-            assert_last(&rt, rt.alloc(), &image, number, last)?;
+            assert_last(&rt, rt.alloc(), words, number, last)?;
         }
     }
     Ok(())
@@ -214,14 +242,12 @@ fn loses_no_update(rt: HostRuntime) -> Result<(), Fail> {
 fn assert_last(
     rt: &impl Abort,
     alloc: Global,
-    image: &[u8],
+    words: &[u32],
     number: u64,
     last: &str,
 ) -> Result<(), AllocError> {
     let line = line_of(alloc, number)?;
-    let (status, outer) = run(alloc, image, &line, &[])?;
-    assert_eq!(rt; status, Status::Ended);
-    let text = str::from_utf8(outer.written("out").unwrap_or(b"")).unwrap_or("");
-    assert!(rt; text.contains(last), "order {number}: no {last}");
+    let outer = run_to_end(rt, alloc, words, &line)?;
+    assert!(rt; text_of(&outer).contains(last), "order {number}: no {last}");
     Ok(())
 }

@@ -1,5 +1,6 @@
 use super::*;
 use crate::tests::words_of;
+use std::process::Abort;
 
 #[test]
 fn reads_the_words(rt: HostRuntime) -> Result<(), AllocError> {
@@ -37,79 +38,104 @@ fn reads_the_words(rt: HostRuntime) -> Result<(), AllocError> {
             "01",
         ),
     ] {
-        let words = words_of(rt.alloc(), line)?;
-        match read_words(&words) {
-            Some(command) => {
-                assert_eq!(rt; command.image, "img", "image of {line}");
-                assert_eq!(rt; command.trace, "out", "trace of {line}");
-                assert_eq!(rt; command.settings.harts, harts, "harts of {line}");
-                assert_eq!(rt; command.settings.ram / 1_048_576, ram, "ram of {line}");
-                assert_eq!(rt; command.settings.budget, budget, "budget of {line}");
-                assert!(rt; command.order == order.as_bytes(), "order of {line}");
-            }
-            None => assert!(rt; false, "no reading of {line}"),
-        }
+        let settings = (harts, ram, budget);
+        assert_reading(&rt, rt.alloc(), line, settings, order)?;
     }
     Ok(())
 }
+
+// That the line is a command for so many harts, MiB and ends of each hart, and this order.
+fn assert_reading(
+    rt: &impl Abort,
+    alloc: Global,
+    line: &str,
+    (harts, mebibytes, budget): (u8, u64, u64),
+    order: &str,
+) -> Result<(), AllocError> {
+    let words = words_of(alloc, line)?;
+    let settings = Settings {
+        harts,
+        ram: MEBIBYTE.wrapping_mul(mebibytes),
+        budget,
+    };
+    let command = read_words(&words);
+    assert!(rt;
+        command.is_some_and(|command| is_command(&command, settings, order)),
+        "{line}"
+    );
+    Ok(())
+}
+
+fn is_command(command: &Command, settings: Settings, order: &str) -> bool {
+    command.image == "img"
+        && command.trace == "out"
+        && command.settings == settings
+        && command.order == order.as_bytes()
+}
+
+// Words without a reading, a case a line.
+const NO_READING: &str = "solo
+run img out
+Solo img out
+solo img
+solo img out more
+solo  out
+solo -img out
+solo img -
+solo --ram=1 --budget=1 img out
+solo img --ram=1 out
+solo img out --harts=1 more
+solo img out --input=1
+solo img out --RAM=1
+solo img out -ram=1
+solo img out --ram
+solo img out --ram 1
+solo img out --ram 1 --budget=1
+solo img out --order 0
+solo img out --harts=1 --harts=1
+solo img out --ram=1 --ram=1
+solo img out --ram=1 --budget=1 --ram=2
+solo img out --budget=1 --ram=1 --budget=1
+solo img out --order=0 --order=0
+solo img out --harts=0
+solo img out --harts=33
+solo img out --ram=0
+solo img out --ram=257
+solo img out --budget=0
+solo img out --budget=262145
+solo img out --harts=32 --budget=8193
+solo img out --budget=131073 --harts=2
+solo img out --harts=00000000001
+solo img out --ram=00000000001
+solo img out --budget=00000000001
+solo img out --harts=
+solo img out --ram=
+solo img out --budget=
+solo img out --order=
+solo img out --harts=a
+solo img out --ram=1k
+solo img out --ram=+1
+solo img out --budget=-1
+solo img out --order=w
+solo img out --order=A
+solo img out --order=0,1";
 
 #[test]
 fn refuses_other_words(rt: HostRuntime) -> Result<(), AllocError> {
     let none: [String; 0] = [];
     assert!(rt; read_words(&none).is_none());
-    for line in [
-        "",
-        "solo",
-        "run img out",
-        "Solo img out",
-        "solo img",
-        "solo img out more",
-        "solo  out",
-        "solo img ",
-        "solo -img out",
-        "solo img -",
-        "solo --ram=1 --budget=1 img out",
-        "solo img --ram=1 out",
-        "solo img out --harts=1 more",
-        "solo img out --ram=1 ",
-        "solo img out --input=1",
-        "solo img out --RAM=1",
-        "solo img out -ram=1",
-        "solo img out --ram",
-        "solo img out --ram 1",
-        "solo img out --ram 1 --budget=1",
-        "solo img out --order 0",
-        "solo img out --harts=1 --harts=1",
-        "solo img out --ram=1 --ram=1",
-        "solo img out --ram=1 --budget=1 --ram=2",
-        "solo img out --budget=1 --ram=1 --budget=1",
-        "solo img out --order=0 --order=0",
-        "solo img out --harts=0",
-        "solo img out --harts=33",
-        "solo img out --ram=0",
-        "solo img out --ram=257",
-        "solo img out --budget=0",
-        "solo img out --budget=262145",
-        "solo img out --harts=32 --budget=8193",
-        "solo img out --budget=131073 --harts=2",
-        "solo img out --harts=00000000001",
-        "solo img out --ram=00000000001",
-        "solo img out --budget=00000000001",
-        "solo img out --harts=",
-        "solo img out --ram=",
-        "solo img out --budget=",
-        "solo img out --order=",
-        "solo img out --harts=a",
-        "solo img out --ram=1k",
-        "solo img out --ram=+1",
-        "solo img out --budget=-1",
-        "solo img out --order=w",
-        "solo img out --order=A",
-        "solo img out --order=0,1",
-    ] {
-        let words = words_of(rt.alloc(), line)?;
-        assert!(rt; read_words(&words).is_none(), "a reading of {line}");
+    for line in NO_READING.split('\n') {
+        assert_refused(&rt, rt.alloc(), line)?;
     }
+    for line in ["", "solo img ", "solo img out --ram=1 "] {
+        assert_refused(&rt, rt.alloc(), line)?;
+    }
+    Ok(())
+}
+
+fn assert_refused(rt: &impl Abort, alloc: Global, line: &str) -> Result<(), AllocError> {
+    let words = words_of(alloc, line)?;
+    assert!(rt; read_words(&words).is_none(), "a reading of {line}");
     Ok(())
 }
 
@@ -137,20 +163,8 @@ fn limits_the_order(rt: HostRuntime) -> Result<(), AllocError> {
 }
 
 #[test]
-fn names_the_harts(rt: HostRuntime) {
-    for (character, hart) in [
-        (b'0', 0),
-        (b'9', 9),
-        (b'a', 10),
-        (b'v', 31),
-        (b'w', 32),
-        (b'A', 32),
-        (b':', 32),
-        (b'`', 32),
-        (b'/', 32),
-        (0, 32),
-        (255, 32),
-    ] {
-        assert_eq!(rt; hart_named(character), hart, "{character}");
-    }
+fn names_the_harts(rt: HostRuntime) -> Result<(), AllocError> {
+    let harts = harts_named(rt.alloc(), b"09avwA:`/\x00\xff")?;
+    assert!(rt; harts.as_slice() == [0, 9, 10, 31, 32, 32, 32, 32, 32, 32, 32].as_slice());
+    Ok(())
 }
