@@ -294,19 +294,20 @@ fn answers_by_the_image(rt: HostRuntime) -> Result<(), AllocError> {
     let alloc = rt.alloc();
     let whole = vec![in alloc; 0; 1_048_576]?;
     let longer = vec![in alloc; 0; 1_048_577]?;
-    // `addi x0, x0, 0`, and `ecall`.
-    let system = [0x13, 0, 0, 0, 0x73, 0, 0, 0];
+    // `addi x0, x0, 0`, and `wfi`.
+    let waiting = [0x13, 0, 0, 0, 0x73, 0, 0x50, 0x10];
     for (image, status) in [
         (
             longer.as_slice(),
             Status::ImageRefused(ImageFault::SegmentOutsideRam(0)),
         ),
-        (whole.as_slice(), Status::Unbuilt(0x8000_0000)),
-        (system.as_slice(), Status::Unbuilt(0x8000_0004)),
+        (waiting.as_slice(), Status::Unbuilt(0x8000_0004)),
         (OUTSIDE.as_slice(), Status::Unbuilt(0x8000_0010)),
     ] {
         assert_image(&rt, alloc, image, status)?;
     }
+    let (answer, _) = run(alloc, whole.as_slice(), "solo img out --ram=1 --budget=9", &[])?;
+    assert!(rt; answer == Status::Ended);
     Ok(())
 }
 

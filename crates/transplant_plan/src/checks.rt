@@ -44,7 +44,17 @@ fn check_top(alloc: Global, key: &str, value: &Value) -> Result<(), PlanFault>
     } else if key == "version" {
         check_count(alloc, &VERSIONS, key, value)
     } else {
-        Err(PlanFault::UnknownKey(Text::of(alloc, key.as_bytes())?))
+        Err(unknown_key(alloc, key))
+    }
+}
+
+// The fault of a key that isn't known, or want of memory.
+fn unknown_key(alloc: Global, key: &str) -> PlanFault
+    ensures { result ≢ PlanFault.OutOfMemory → result ≡ PlanFault.UnknownKey key.now }
+{
+    match Text::of(alloc, key.as_bytes()) {
+        Ok(key) => PlanFault::UnknownKey(key),
+        Err(_) => PlanFault::OutOfMemory,
     }
 }
 
@@ -59,7 +69,17 @@ fn check_count(alloc: Global, counts: &[u8], key: &str, value: &Value) -> Result
             return Ok(());
         }
     }
-    Err(PlanFault::BadCount(Text::of(alloc, key.as_bytes())?, number))
+    Err(bad_count(alloc, key, number))
+}
+
+// The fault of a count that isn't allowed, or want of memory.
+fn bad_count(alloc: Global, key: &str, number: Option<i64>) -> PlanFault
+    ensures { result ≢ PlanFault.OutOfMemory → result ≡ PlanFault.BadCount key.now number }
+{
+    match Text::of(alloc, key.as_bytes()) {
+        Ok(key) => PlanFault::BadCount(key, number),
+        Err(_) => PlanFault::OutOfMemory,
+    }
 }
 
 // The count that is this number, where it is among the allowed ones.
@@ -81,7 +101,7 @@ fn check_engines(alloc: Global, value: &Value) -> Result<(), PlanFault>
 {
     match value.as_table() {
         Some(engines) => check_classes(alloc, engines),
-        None => Err(PlanFault::UnknownKey(Text::of(alloc, b"engine")?)),
+        None => Err(unknown_key(alloc, "engine")),
     }
 }
 
@@ -110,7 +130,7 @@ fn check_class(alloc: Global, key: &str, value: &Value) -> Result<(), PlanFault>
         None => {
             let mut name = String::from_str(alloc, "engine.")?;
             name.push_str(key)?;
-            Err(PlanFault::UnknownKey(Text::of(alloc, name.as_bytes())?))
+            Err(unknown_key(alloc, name.as_str()))
         }
     }
 }

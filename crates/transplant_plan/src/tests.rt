@@ -4,7 +4,7 @@ use std::alloc::{AllocError, Global};
 use std::test::Fail;
 
 // A fault, with texts to be compared.
-#[derive(Drop)]
+#[derive(Clone, Copy)]
 enum Expected<'a> {
     NotUtf8,
     NotToml,
@@ -50,103 +50,107 @@ fn are_refused(alloc: Global, table: &[(&[u8], Expected)]) -> bool {
         .all(|(bytes, expected)| is_refused(alloc, bytes, expected))
 }
 
+const FAULTS: [(&[u8], Expected); 20] = [
+    (b"\xff", Expected::NotUtf8),
+    (b"banks =", Expected::NotToml),
+    (b"banks = 2\nbanks = 2", Expected::NotToml),
+    (b"\xffbanks =", Expected::NotUtf8),
+    (b"bank = 4", Expected::UnknownKey("bank")),
+    (b"engine = 'host'", Expected::UnknownKey("engine")),
+    (
+        b"engine.vector = 'host'",
+        Expected::UnknownKey("engine.vector"),
+    ),
+    (b"engine.Alu = 'host'", Expected::UnknownKey("engine.Alu")),
+    (b"hart = {}", Expected::UnknownKey("hart")),
+    (
+        b"engine.alu = 'fpga'",
+        Expected::UnknownEngine(Class::Alu, Some("fpga")),
+    ),
+    (
+        b"engine.alu = 'Pipe'",
+        Expected::UnknownEngine(Class::Alu, Some("Pipe")),
+    ),
+    (b"engine.alu = 1", Expected::UnknownEngine(Class::Alu, None)),
+    (
+        b"engine.csr = 'pipe'",
+        Expected::CannotRun(Class::Csr, Engine::Pipe),
+    ),
+    (
+        b"engine.device = 'kernel'",
+        Expected::CannotRun(Class::Device, Engine::Kernel),
+    ),
+    (b"banks = 3", Expected::BadCount("banks", Some(3))),
+    (b"banks = 128", Expected::BadCount("banks", Some(128))),
+    (b"pipes = 0", Expected::BadCount("pipes", Some(0))),
+    (b"kernels = -1", Expected::BadCount("kernels", Some(-1))),
+    (b"kernels = 1.0", Expected::BadCount("kernels", None)),
+    (b"version = 2", Expected::BadCount("version", Some(2))),
+];
+
 #[test]
 fn each_fault_is_named(rt: HostRuntime) {
-    let table: [(&[u8], Expected); 20] = [
-        (b"\xff", Expected::NotUtf8),
-        (b"banks =", Expected::NotToml),
-        (b"banks = 2\nbanks = 2", Expected::NotToml),
-        (b"\xffbanks =", Expected::NotUtf8),
-        (b"bank = 4", Expected::UnknownKey("bank")),
-        (b"engine = 'host'", Expected::UnknownKey("engine")),
-        (
-            b"engine.vector = 'host'",
-            Expected::UnknownKey("engine.vector"),
-        ),
-        (b"engine.Alu = 'host'", Expected::UnknownKey("engine.Alu")),
-        (b"hart = {}", Expected::UnknownKey("hart")),
-        (
-            b"engine.alu = 'fpga'",
-            Expected::UnknownEngine(Class::Alu, Some("fpga")),
-        ),
-        (
-            b"engine.alu = 'Pipe'",
-            Expected::UnknownEngine(Class::Alu, Some("Pipe")),
-        ),
-        (b"engine.alu = 1", Expected::UnknownEngine(Class::Alu, None)),
-        (
-            b"engine.csr = 'pipe'",
-            Expected::CannotRun(Class::Csr, Engine::Pipe),
-        ),
-        (
-            b"engine.device = 'kernel'",
-            Expected::CannotRun(Class::Device, Engine::Kernel),
-        ),
-        (b"banks = 3", Expected::BadCount("banks", Some(3))),
-        (b"banks = 128", Expected::BadCount("banks", Some(128))),
-        (b"pipes = 0", Expected::BadCount("pipes", Some(0))),
-        (b"kernels = -1", Expected::BadCount("kernels", Some(-1))),
-        (b"kernels = 1.0", Expected::BadCount("kernels", None)),
-        (b"version = 2", Expected::BadCount("version", Some(2))),
-    ];
-    assert!(rt; are_refused(rt.alloc(), &table));
+    assert!(rt; are_refused(rt.alloc(), &FAULTS));
 }
 
 // Of two faults the one of the first key in the order of bytes, whatever the order in the file.
+const TWO_FAULTS: [(&[u8], Expected); 21] = [
+    (
+        b"version = 2\nbanks = 3",
+        Expected::BadCount("banks", Some(3)),
+    ),
+    (b"zone = 1\nbanks = 3", Expected::BadCount("banks", Some(3))),
+    (b"banks = 3\nbank = 1", Expected::UnknownKey("bank")),
+    (
+        b"[engine]\nvector = 'host'\n[bank]",
+        Expected::UnknownKey("bank"),
+    ),
+    (
+        b"kernels = 9\n[engine]\ncsr = 'pipe'",
+        Expected::CannotRun(Class::Csr, Engine::Pipe),
+    ),
+    (
+        b"pipes = 9\nkernels = 9",
+        Expected::BadCount("kernels", Some(9)),
+    ),
+    (
+        b"engine = {device = 'pipe', csr = 'pipe'}",
+        Expected::CannotRun(Class::Csr, Engine::Pipe),
+    ),
+    (
+        b"engine = {vector = 'host', walk = 'host', trap = 'pipe'}",
+        Expected::CannotRun(Class::Trap, Engine::Pipe),
+    ),
+    (
+        b"engine = {jump = 'fpga', csr = 1}",
+        Expected::UnknownEngine(Class::Csr, None),
+    ),
+    (
+        b"engine = {alu = 'fpga', csr = 'pipe'}",
+        Expected::UnknownEngine(Class::Alu, Some("fpga")),
+    ),
+    (b"Banks = 4\nbanks = 3", Expected::UnknownKey("Banks")),
+    (b"banks = 3\nbanks =", Expected::NotToml),
+    (b"bank = 1\nbanks =", Expected::NotToml),
+    (b"engine.alu = 1\nbanks =", Expected::NotToml),
+    (b"engine.csr = 'pipe'\nbanks =", Expected::NotToml),
+    (b"bank = 1 # \xff", Expected::NotUtf8),
+    (b"engine.alu = 1 # \xff", Expected::NotUtf8),
+    (b"engine.csr = 'pipe' # \xff", Expected::NotUtf8),
+    (b"banks = 3 # \xff", Expected::NotUtf8),
+    (
+        b"engine = {vector = 'host', alu = 1}",
+        Expected::UnknownEngine(Class::Alu, None),
+    ),
+    (
+        b"pipes = 9\nengine.alu = 'fpga'",
+        Expected::UnknownEngine(Class::Alu, Some("fpga")),
+    ),
+];
+
 #[test]
 fn the_first_of_two_faults_is_named(rt: HostRuntime) {
-    let banks = || Expected::BadCount("banks", Some(3));
-    let table: [(&[u8], Expected); 21] = [
-        (b"version = 2\nbanks = 3", banks()),
-        (b"zone = 1\nbanks = 3", banks()),
-        (b"banks = 3\nbank = 1", Expected::UnknownKey("bank")),
-        (
-            b"[engine]\nvector = 'host'\n[bank]",
-            Expected::UnknownKey("bank"),
-        ),
-        (
-            b"kernels = 9\n[engine]\ncsr = 'pipe'",
-            Expected::CannotRun(Class::Csr, Engine::Pipe),
-        ),
-        (
-            b"pipes = 9\nkernels = 9",
-            Expected::BadCount("kernels", Some(9)),
-        ),
-        (
-            b"engine = {device = 'pipe', csr = 'pipe'}",
-            Expected::CannotRun(Class::Csr, Engine::Pipe),
-        ),
-        (
-            b"engine = {vector = 'host', walk = 'host', trap = 'pipe'}",
-            Expected::CannotRun(Class::Trap, Engine::Pipe),
-        ),
-        (
-            b"engine = {jump = 'fpga', csr = 1}",
-            Expected::UnknownEngine(Class::Csr, None),
-        ),
-        (
-            b"engine = {alu = 'fpga', csr = 'pipe'}",
-            Expected::UnknownEngine(Class::Alu, Some("fpga")),
-        ),
-        (b"Banks = 4\nbanks = 3", Expected::UnknownKey("Banks")),
-        (b"banks = 3\nbanks =", Expected::NotToml),
-        (b"bank = 1\nbanks =", Expected::NotToml),
-        (b"engine.alu = 1\nbanks =", Expected::NotToml),
-        (b"engine.csr = 'pipe'\nbanks =", Expected::NotToml),
-        (b"bank = 1 # \xff", Expected::NotUtf8),
-        (b"engine.alu = 1 # \xff", Expected::NotUtf8),
-        (b"engine.csr = 'pipe' # \xff", Expected::NotUtf8),
-        (b"banks = 3 # \xff", Expected::NotUtf8),
-        (
-            b"engine = {vector = 'host', alu = 1}",
-            Expected::UnknownEngine(Class::Alu, None),
-        ),
-        (
-            b"pipes = 9\nengine.alu = 'fpga'",
-            Expected::UnknownEngine(Class::Alu, Some("fpga")),
-        ),
-    ];
-    assert!(rt; are_refused(rt.alloc(), &table));
+    assert!(rt; are_refused(rt.alloc(), &TWO_FAULTS));
 }
 
 // Whether the file has a plan with these counts of banks, pipes and kernels and these engines.
