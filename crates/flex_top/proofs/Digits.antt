@@ -1,8 +1,10 @@
 -- The decimal digits of a number.
-use Rattle.std.proofs.Common.{◌≡◌, ℕ, zero, suc, ◌+◌, ◌-◌, ◌/◌, ◌%◌, ◌^◌, ◌<◌, ◌≤◌, List, [], ◌∷◌, ◌++◌, take, set, get_or, length, decimal, refl, sym, ap, ◌∙◌, inl, inr, arith}
+use Rattle.std.proofs.Common.{◌≡◌, ℕ, zero, suc, ◌+◌, ◌-◌, ◌/◌, ◌%◌, ◌^◌, ◌<◌, ◌≤◌, List, [], ◌∷◌, ◌++◌, take, set, get_or, length, decimal, codes, append_assoc, refl, sym, ap, ◌∙◌, inl, inr, arith}
 use Rattle.std.proofs.lemmas.Fmt.{decimal_digit, decimal_step, decimal_nonempty}
 use Rattle.std.proofs.lemmas.List.{take_more, take_more_set, same_from_push}
 use Rattle.std.proofs.lemmas.Bool.{cases_lt}
+use Rattle.flex_base.specs.declared.engine.Engine.{Engine}
+use Rattle.flex_top.specs.EventText.{engine_text}
 
 pub two_digits : (n : ℕ) → 10 ≤ n → n < 100 → decimal n ≡ (48 + n / 10) ∷ (48 + n % 10) ∷ []
 two_digits n ten below =
@@ -11,6 +13,12 @@ two_digits n ten below =
 pub some_digit : (count : ℕ) (digits : List ℕ) (n : ℕ) → n < 2 ^ 64 → take count digits ≡ decimal n → 1 ≤ count
 some_digit zero digits n small is = absurd (omega (arith, decimal_nonempty n small, ap (λ (ds : List ℕ). length ds) is))
 some_digit (suc k) digits n small is = omega arith
+
+-- a hart of one digit and its engine, put at once
+pub holder_text : (old : List ℕ) (h letter : ℕ) (engine : Engine) → h < 10 → letter ∷ [] ≡ engine_text engine
+    → old ++ (32 ∷ (48 + h) ∷ 32 ∷ letter ∷ 32 ∷ []) ≡ old ++ codes " " ++ decimal h ++ codes " " ++ engine_text engine ++ codes " "
+holder_text old h letter engine below is =
+    rw (decimal_digit h below, ← is) (simp append_assoc refl)
 
 -- the digits before the last one, and the last one; where that isn't a nine, the next number differs in it alone
 record LastDigit (n : ℕ) : Type 0 where

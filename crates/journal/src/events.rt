@@ -27,6 +27,7 @@ impl<'a> Iterator for Events<'a> {
 
     ghost remaining = { item_count (λ rest. rest) };
 
+    #[inline]
     fn next(&mut self) -> Option<Event> {
         let (kept, rest) = self.kept.split_first()?;
         self.kept = rest;

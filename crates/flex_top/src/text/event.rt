@@ -29,6 +29,20 @@ fn put_holder<P: Put>(into: &mut P, hart: HartId, engine: Engine)
         ≡ P.text into.old ++ codes " " ++ decimal hart.0 ++ codes " " ++ engine_text engine ++ codes " " }
     ensures room { length (P.text into.new) ≤ length (P.text into.old) + 7 }
 {
+    if hart.0 < 10 {
+        into.put(&[b' ', b'0' + hart.0, b' ', letter_of(engine), b' ']);
+    } else {
+        put_long_holder(into, hart, engine);
+    }
+}
+
+#[cold]
+fn put_long_holder<P: Put>(into: &mut P, hart: HartId, engine: Engine)
+    requires { length (P.text into.old) + 7 ≤ P.room }
+    ensures text { P.text into.new
+        ≡ P.text into.old ++ codes " " ++ decimal hart.0 ++ codes " " ++ engine_text engine ++ codes " " }
+    ensures room { length (P.text into.new) ≤ length (P.text into.old) + 7 }
+{
     into.put(b" ");
     put_small(into, hart.0);
     into.put(&[b' ', letter_of(engine), b' ']);
