@@ -176,7 +176,7 @@ impl Player {
     }
 
     // Makes the next event of a hart, where there is one.
-    #[inline(always)]
+    #[inline(never)]
     pub(crate) fn step(&mut self, h: usize) -> Result<Step, Stuck>
         requires hart { h < length self.old.harts.items }
         requires at { (setup : Setup) × (u : Machine) × IsAt setup u self.old }

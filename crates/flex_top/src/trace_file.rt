@@ -38,6 +38,7 @@ pub fn write_trace<O: Outer>(
     Ok(())
 }
 
+#[inline(never)]
 fn add_events<O: Outer>(
     outer: &mut O,
     name: &str,
