@@ -7,7 +7,7 @@ ghost use Rattle.flex_top.specs.Trace.{whole_text};
 ghost use Rattle.flex_top.specs.Written.{Passes, PassesPart, Becomes, BecomesPart};
 
 use crate::pieces::Pieces;
-use crate::text::{Number, TailLine, put_event, put_header, put_tail_line};
+use crate::text::{Number, TailLine, put_header, put_kept, put_tail_line};
 use flex_base::{Failed, Outer, Settings};
 use journal::HartLog;
 
@@ -54,8 +54,8 @@ fn add_events<O: Outer>(
     ensures frame { OnlyWrites (O.outside outer.old) (O.outside outer.new) (IsErr result) }
 {
     let mut number = Number::of(0);
-    for event in events.events() {
-        put_event(&event, &mut number, pieces);
+    for event in events.kept_events() {
+        put_kept(&event, &mut number, pieces);
         pieces.write_full(outer, name)?;
     }
     Ok(())

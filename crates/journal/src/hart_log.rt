@@ -6,6 +6,7 @@ ghost use Rattle.journal.specs.Keeping.{IsKept};
 
 use crate::events::Events;
 use crate::kept::{Kept, Last};
+use crate::kept_event::KeptEvents;
 use crate::parts::Parts;
 use flex_base::{Access, EndPart, Engine, Event, HartId, Reply, What};
 use std::alloc::{AllocError, Global};
@@ -144,6 +145,15 @@ impl HartLog {
         ensures { result ≡ self.now.events }
     {
         Events {
+            kept_events: self.kept_events(),
+        }
+    }
+
+    /// The events in order, as they are kept.
+    pub fn kept_events(&self) -> KeptEvents<'_>
+        ensures { result ≡ self.now.events }
+    {
+        KeptEvents {
             kept: &self.kept,
             beside: &self.beside,
         }
