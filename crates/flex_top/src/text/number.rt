@@ -46,10 +46,10 @@ impl Number {
     pub fn go_to(&mut self, value: u64)
         ensures { self.new ≡ value }
     {
-        if self.value < value && value - self.value == 1 {
+        if value != 0 && self.value == value - 1 {
             self.count_up();
         } else {
-            *self = Number::of(value);
+            self.change_to(value);
         }
     }
 
@@ -67,7 +67,7 @@ impl Number {
         }
     }
 
-    // After a nine: most often the digit before counts up. Else all digits are made anew.
+    // After a nine: most often the digit before counts up.
     fn carry(&mut self)
         requires { self.old < 2 ^ 64 - 1 }
         ensures { self.new ≡ self.old + 1 }
@@ -78,8 +78,16 @@ impl Number {
             self.digits[last] = b'0';
             self.value += 1;
         } else {
-            *self = Number::of(self.value + 1);
+            self.change_to(self.value + 1);
         }
+    }
+
+    // Makes all digits anew.
+    #[inline(never)]
+    fn change_to(&mut self, value: u64)
+        ensures { self.new ≡ value }
+    {
+        *self = Number::of(value);
     }
 
     /// Puts its digits.
