@@ -217,7 +217,7 @@ says_none_of (Some a) (Some b) bytes same = let is : b ≡ a = cc in (0, is ∙ 
 
 -- the trace of a run that was played is left
 pub leaves_all : (r : Reading) (image : Loaded) (l : Result Loaded Status) (old new : Outside) (player : Player) (events : List Event) (tail : List TailLine) → l ≡ Ok image
-    → IsReached (setup_of image r.settings) (names_played (setup_of image r.settings) r.order) player → events ≡ player.run.events.items
+    → IsReached (setup_of image r.settings) (names_played (setup_of image r.settings) r.order) player → events ≡ player.run.events.events
     → tail ≡ tail_of (setup_of image r.settings) (reach (setup_of image r.settings) (names_played (setup_of image r.settings) r.order))
     → Writes old new r.trace (Becomes (whole_text r.settings events tail)) → new.said ≡ old.said → Leaves (outcome_of l r) old new
 leaves_all r image l old new player events tail is done same_events same_tail writes said =
@@ -231,7 +231,7 @@ leaves_all r image l old new player events tail is done same_events same_tail wr
 
 -- or the beginning of it
 pub leaves_part : (r : Reading) (image : Loaded) (l : Result Loaded Status) (old new : Outside) (player : Player) (events : List Event) (tail : List TailLine) → l ≡ Ok image
-    → IsReached (setup_of image r.settings) (names_played (setup_of image r.settings) r.order) player → events ≡ player.run.events.items
+    → IsReached (setup_of image r.settings) (names_played (setup_of image r.settings) r.order) player → events ≡ player.run.events.events
     → tail ≡ tail_of (setup_of image r.settings) (reach (setup_of image r.settings) (names_played (setup_of image r.settings) r.order))
     → Writes old new r.trace (BecomesPart (whole_text r.settings events tail)) → new.said ≡ old.said → LeavesPart (outcome_of l r) old new
 leaves_part r image l old new player events tail is done same_events same_tail writes said =

@@ -152,6 +152,22 @@ part_within f xs i d a b c name held held' line within same p q =
     let so_far : PassesPart a c name held (flat_map f (take (i + 1) xs)) = rw (lines_more f xs i d within) (part_on a b c name held held' _ _ p (rw (← same) q)) in
     rw (← split) (part_more a c name held _ _ so_far)
 
+-- one line more of those that come one by one
+pub passes_push : {X : Type 0} (f : X → List ℕ) (done : List X) (x : X) (a b c : Outside) (name held held' held'' : List ℕ) → Passes a b name held held' (flat_map f done) → Passes b c name held' held'' (f x) → Passes a c name held held'' (flat_map f (done ++ x ∷ []))
+passes_push f done x a b c name held held' held'' p q =
+    let more : flat_map f (done ++ x ∷ []) ≡ flat_map f done ++ f x = flat_map-append f done (x ∷ []) ∙ ap (λ t. flat_map f done ++ t) (append-nil (f x)) in
+    rw more (passes_on a b c name held held' held'' _ _ p q)
+
+-- a failure within them
+pub part_push : {X : Type 0} (f : X → List ℕ) (done rest all : List X) (x : X) (a b c : Outside) (name held held' : List ℕ) → (done ++ x ∷ []) ++ rest ≡ all → Passes a b name held held' (flat_map f done) → PassesPart b c name held' (f x) → PassesPart a c name held (flat_map f all)
+part_push f done rest all x a b c name held held' whole p q =
+    let split : flat_map f done ++ (f x ++ flat_map f rest) ≡ flat_map f all = sym (flat_map-append f done (x ∷ rest)) ∙ ap (flat_map f) (sym (append_assoc done (x ∷ []) rest) ∙ whole) in
+    rw (← split) (part_on a b c name held held' _ _ p (part_more b c name held' _ _ q))
+
+-- what has come, and what is left, where one more comes
+pub come_more : {X : Type 0} (done rest left all : List X) (x : X) → done ++ rest ≡ all → rest ≡ x ∷ left → (done ++ x ∷ []) ++ left ≡ all
+come_more done rest left all x whole first = append_assoc done (x ∷ []) left ∙ ap (λ t. done ++ t) (sym first) ∙ whole
+
 pub on_err : {T E P : Type 0} (r : Result T E) → P → OnErr r P
 on_err (Ok x) p = tt
 on_err (Err e) p = p

@@ -9,7 +9,7 @@ use Rattle.flex_base.proofs.Machines.{reach-cons, reach-none, reach-append, reac
 use Rattle.flex_base.proofs.Turns.{first_none, first_unbuilt-append, turns_ended, turns-cons, turns-append}
 use Rattle.flex_base.proofs.Standing.{all_stand}
 use Rattle.flex_base.proofs.EndOfRun.{repeated-none, repeated-suc, below_most, rounds_end}
-use Rattle.flex_top.specs.Play.{IsAt, Comes, AtUnbuilt, AfterStep, IsStepped, Accesses, Finishes, IsDone, IsStuck, IsTurned, with_turns, Playing, IsReached}
+use Rattle.flex_top.specs.Play.{IsAt, Comes, AtUnbuilt, AfterStep, IsStepped, Accesses, Finishes, IsDone, IsStuck, IsTurned, IsInTurn, with_turns, Playing, IsReached}
 use Rattle.flex_top.specs.declared.player.Player.{Player}
 use Rattle.flex_top.specs.declared.player.Step.{Step}
 use Rattle.flex_top.specs.declared.player.Step.TheVariants as step_of
@@ -35,14 +35,19 @@ unbuilt_on setup u h names built =
     ∙ ap (λ o. first_of o (first_unbuilt setup (step setup u h) (turn_of setup (step setup u h) h))) built
 
 -- the turn goes on where the access left it
-pub turned_on : (setup : Setup) (u : Machine) (h : ℕ) (player : Player) (r : Result (Unit {0}) Stuck) (next : Player) → Accesses setup u h player
-    → Comes r (λ done. IsTurned setup (step setup u h) h next) (λ pc. first_unbuilt setup (step setup u h) (turn_of setup (step setup u h) h) ≡ Some pc)
-    → Comes r (λ done. IsTurned setup u h next) (λ pc. first_unbuilt setup u (turn_of setup u h) ≡ Some pc)
-turned_on setup u h player (Ok done) next on after =
+pub in_turn_on : (setup : Setup) (u : Machine) (h : ℕ) (player next : Player) (was : IsInTurn setup u h player) → Accesses setup was.now h next → IsInTurn setup u h next
+in_turn_on setup u h player next was on = record {
+  now = step setup was.now h;
+  at = on.stepped.at;
+  reaches = was.reaches ∙ sym (reach_on setup was.now h on.names);
+  unbuilt = was.unbuilt ∙ unbuilt_on setup was.now h on.names on.stepped.built;
+}
+
+-- the rest of the turn is made
+pub turned_all : (setup : Setup) (u : Machine) (h : ℕ) (player next : Player) (was : IsInTurn setup u h player) → IsTurned setup was.now h next → IsTurned setup u h next
+turned_all setup u h player next was turned =
     let At : Machine → Type 0 = λ m. IsAt setup m next in
-    record { at = subst At (reach_on setup u h on.names) after.at; built = unbuilt_on setup u h on.names on.stepped.built ∙ after.built }
-turned_on setup u h player (Err (stuck.Unbuilt pc)) next on after = unbuilt_on setup u h on.names on.stepped.built ∙ after
-turned_on setup u h player (Err stuck.OutOfMemory) next on after = tt
+    record { at = subst At (sym was.reaches) turned.at; built = was.unbuilt ∙ turned.built }
 
 pub turned_once : (setup : Setup) (u : Machine) (h : ℕ) (player : Player) → Finishes setup u h player → IsTurned setup u h player
 turned_once setup u h player after =

@@ -31,7 +31,7 @@ ram_is setup u bytes same = same
 
 -- the trace of a run, by what the player keeps
 pub trace_is : (setup : Setup) (order : List ℕ) (player : Player) (events : List Event) (tail : List TailLine) → IsReached setup (names_played setup order) player
-    → events ≡ player.run.events.items → tail ≡ tail_of setup (reach setup (names_played setup order))
+    → events ≡ player.run.events.events → tail ≡ tail_of setup (reach setup (names_played setup order))
     → trace_of setup order ≡ whole_text (settings_of setup) events tail
 unfolding trace_of trace_text journal_of
 trace_is setup order player events tail done same_events same_tail =

@@ -98,6 +98,13 @@ pub record IsTurned (setup : Setup) (u : Machine) (h : ℕ) (player : Player) : 
   pub at : IsAt setup (reach_from setup u (turn_of setup u h)) player
   pub built : first_unbuilt setup u (turn_of setup u h) ≡ None
 
+-- some events of a turn are made: from this state the turn goes on as the whole from its start
+pub record IsInTurn (setup : Setup) (u : Machine) (h : ℕ) (player : Player) : Type 0 where
+  pub now : Machine
+  pub at : IsAt setup now player
+  pub reaches : reach_from setup u (turn_of setup u h) ≡ reach_from setup now (turn_of setup now h)
+  pub unbuilt : first_unbuilt setup u (turn_of setup u h) ≡ first_unbuilt setup now (turn_of setup now h)
+
 -- an access brings the end of the instruction nearer
 abbrev pub IsNearer : ℕ → Step → Player → Player → Type 0
 IsNearer h step_of.Accessed old new = left (progress_at new h) < left (progress_at old h)

@@ -9,7 +9,7 @@ ghost use Rattle.flex_top.specs.declared.player.Stuck.TheVariants as stuck;
 use crate::memory::Memory;
 use crate::split_run::SplitRun;
 use crate::text::Tail;
-use flex_base::{HartId, Layout, Settings, Stop, What};
+use flex_base::{HartId, Layout, Settings, Stop};
 use hart_story::{Hart, Need, Progress, finish, give, need};
 use mem_lines::Lines;
 use std::alloc::{AllocError, Global};
@@ -166,15 +166,17 @@ impl Player {
             (λ done. IsTurned setup u h self.new)
             (λ pc. first_unbuilt setup u (turn_of setup u h) ≡ Some pc) }
     {
-        match self.step(h)? {
-            Step::Accessed => self.turn(h),
-            Step::Ended => Ok(()),
-            Step::Over => Ok(()),
+        'turn: loop {
+            match self.step(h)? {
+                Step::Accessed => {}
+                Step::Ended => return Ok(()),
+                Step::Over => return Ok(()),
+            }
         }
     }
 
     // Makes the next event of a hart, where there is one.
-    #[inline(always)]
+    #[inline(never)]
     pub(crate) fn step(&mut self, h: usize) -> Result<Step, Stuck>
         requires hart { h < length self.old.harts.items }
         requires at { (setup : Setup) × (u : Machine) × IsAt setup u self.old }
@@ -192,13 +194,13 @@ impl Player {
             Need::Ask(access, class) => {
                 let told = self.memory.act(hart, &access);
                 give(&self.harts[h], &mut self.progress[h], &layout, budget, told);
-                self.run.add(hart, class, What::Acc(access, told))?;
+                self.run.add_access(hart, class, access, told)?;
                 Ok(Step::Accessed)
             }
             Need::Finish(class) => {
                 let part = finish(&mut self.harts[h], self.progress[h], &layout, budget);
                 self.progress[h] = Progress::begin();
-                self.run.add(hart, class, What::End(part))?;
+                self.run.add_end(hart, class, part)?;
                 Ok(Step::Ended)
             }
             Need::Over => Ok(Step::Over),

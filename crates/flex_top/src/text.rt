@@ -8,7 +8,7 @@ mod put;
 mod tail;
 mod tail_text;
 
-pub use event::put_event;
+pub use event::{put_event, put_kept};
 pub use header::put_header;
 pub use number::Number;
 pub use put::Put;

@@ -7,8 +7,9 @@ ghost use Rattle.flex_top.specs.Trace.{whole_text};
 ghost use Rattle.flex_top.specs.Written.{Passes, PassesPart, Becomes, BecomesPart};
 
 use crate::pieces::Pieces;
-use crate::text::{Number, TailLine, put_event, put_header, put_tail_line};
-use flex_base::{Event, Failed, Outer, Settings};
+use crate::text::{Number, TailLine, put_header, put_kept, put_tail_line};
+use flex_base::{Failed, Outer, Settings};
+use journal::HartLog;
 
 /// Makes the file of this name the text of a trace, written in pieces. It takes no memory.
 ///
@@ -19,13 +20,13 @@ pub fn write_trace<O: Outer>(
     name: &str,
     pieces: &mut Pieces,
     settings: &Settings,
-    events: &[Event],
+    events: &HartLog,
     tail: &[TailLine],
 ) -> Result<(), Failed>
     ensures ok { OnOk result (Writes (O.outside outer.old) (O.outside outer.new) name.now
-        (Becomes (whole_text settings.now events.now tail.now))) }
+        (Becomes (whole_text settings.now events.now.events tail.now))) }
     ensures err { OnErr result (Writes (O.outside outer.old) (O.outside outer.new) name.now
-        (BecomesPart (whole_text settings.now events.now tail.now))) }
+        (BecomesPart (whole_text settings.now events.now.events tail.now))) }
     ensures frame { OnlyWrites (O.outside outer.old) (O.outside outer.new) (IsErr result) }
 {
     outer.start(name)?;
@@ -37,23 +38,24 @@ pub fn write_trace<O: Outer>(
     Ok(())
 }
 
+#[inline(never)]
 fn add_events<O: Outer>(
     outer: &mut O,
     name: &str,
     pieces: &mut Pieces,
-    events: &[Event],
+    events: &HartLog,
 ) -> Result<(), Failed>
     requires { length pieces.old < 65536 }
     ensures ok { OnOk result (Passes (O.outside outer.old) (O.outside outer.new) name.now
-        pieces.old pieces.new (flat_map event_text events.now)) }
+        pieces.old pieces.new (flat_map event_text events.now.events)) }
     ensures err { OnErr result (PassesPart (O.outside outer.old) (O.outside outer.new) name.now
-        pieces.old (flat_map event_text events.now)) }
+        pieces.old (flat_map event_text events.now.events)) }
     ensures room { OnOk result (length pieces.new < 65536) }
     ensures frame { OnlyWrites (O.outside outer.old) (O.outside outer.new) (IsErr result) }
 {
     let mut number = Number::of(0);
-    for event in events {
-        put_event(event, &mut number, pieces);
+    for event in events.kept_events() {
+        put_kept(&event, &mut number, pieces);
         pieces.write_full(outer, name)?;
     }
     Ok(())

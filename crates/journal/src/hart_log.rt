@@ -1,17 +1,22 @@
-ghost use Rattle.std.specs.Prelude.{◌≡◌, ◌+◌, ◌-◌, ◌≤◌, [], ◌∷◌, ◌++◌, length, IfOk};
+ghost use Rattle.std.specs.Prelude.{◌≡◌, ◌+◌, ◌-◌, ◌≤◌, [], ◌∷◌, ◌++◌, length, IfOk, OnOk};
+ghost use Rattle.flex_base.specs.Split.{event};
 ghost use Rattle.journal.specs.Log.{Log};
-ghost use Rattle.journal.specs.Packing.{view_of};
+ghost use Rattle.journal.specs.Packing.{view_of, what_of};
 ghost use Rattle.journal.specs.Keeping.{IsKept};
 
 use crate::events::Events;
 use crate::kept::{Kept, Last};
+use crate::kept_event::KeptEvents;
 use crate::parts::Parts;
-use flex_base::Event;
+use flex_base::{Access, EndPart, Engine, Event, HartId, Reply, What};
 use std::alloc::{AllocError, Global};
 use std::marker::Model;
 
-/// The events of a hart, in order, with room for a fixed number of them. Contracts see the list of
-/// events and the room that is left.
+// For how many more events `grow` makes room.
+const MORE: usize = 65_536;
+
+/// The events of a hart, in order, with room for so many of them. Contracts see the list of events
+/// and the room that is left.
 #[derive(Drop)]
 pub struct HartLog {
     kept: Vec<Kept>,
@@ -40,30 +45,95 @@ impl HartLog {
         })
     }
 
+    /// Makes room for 65,536 events. The error is want of memory.
+    #[cold]
+    pub fn grow(&mut self) -> Result<(), AllocError>
+        ensures events { self.new.events ≡ self.old.events }
+        ensures room { OnOk result (65536 ≤ self.new.room) }
+    {
+        let whole = self.kept.len() + MORE;
+        self.kept.reserve(MORE)?;
+        self.beside.reserve(whole)?;
+        self.whole = whole as u64;
+        Ok(())
+    }
+
     /// Adds an event at the end. It takes no memory.
+    #[inline]
     pub fn push(&mut self, event: Event)
         requires { 1 ≤ self.old.room }
         ensures { self.new ≡ record { events = self.old.events ++ event ∷ []; room = self.old.room - 1 } }
     {
         let parts = Parts::of(&event.what);
+        self.push_parts(event.number, event.hart, event.engine, parts);
+    }
+
+    /// Adds an access and its reply. It takes no memory.
+    #[inline(always)]
+    pub fn push_access(
+        &mut self,
+        number: u64,
+        hart: HartId,
+        engine: Engine,
+        access: Access,
+        reply: Reply,
+    )
+        requires { 1 ≤ self.old.room }
+        ensures { self.new ≡ record {
+          events = self.old.events ++ event number hart.0 engine (What.Acc access reply) ∷ [];
+          room = self.old.room - 1;
+        } }
+    {
+        self.push_parts(number, hart, engine, Parts::of_access(access, reply));
+    }
+
+    /// Adds the end of an instruction or a trap. It takes no memory.
+    #[inline(always)]
+    pub fn push_end(&mut self, number: u64, hart: HartId, engine: Engine, end: EndPart)
+        requires { 1 ≤ self.old.room }
+        ensures { self.new ≡ record {
+          events = self.old.events ++ event number hart.0 engine (What.End end) ∷ [];
+          room = self.old.room - 1;
+        } }
+    {
+        self.push_parts(number, hart, engine, Parts::of_end(end));
+    }
+
+    #[inline(always)]
+    fn push_parts(&mut self, number: u64, hart: HartId, engine: Engine, parts: Parts)
+        requires { 1 ≤ self.old.room }
+        ensures { self.new ≡ record {
+          events = self.old.events ++ event number hart.0 engine (what_of parts) ∷ [];
+          room = self.old.room - 1;
+        } }
+    {
         let last = Last::of(parts.last);
         if let Last::Beside = last {
             self.beside.push_reserved(parts.last);
         }
         self.kept.push_reserved(Kept {
-            number: event.number,
+            number,
             first: parts.first,
             second: parts.second,
             third: parts.third,
-            hart: event.hart,
-            engine: event.engine,
+            hart,
+            engine,
             kind: parts.kind,
             stop: parts.stop,
             last,
         });
     }
 
+    /// How many events there are.
+    #[inline]
+    pub fn len(&self) -> u64
+        ensures { result ≡ length self.now.events }
+    {
+        self.kept.len() as u64
+    }
+
     /// How many more events there is room for.
+    #[inline]
     pub fn room(&self) -> u64
         ensures { result ≡ self.now.room }
     {
@@ -75,6 +145,15 @@ impl HartLog {
         ensures { result ≡ self.now.events }
     {
         Events {
+            kept_events: self.kept_events(),
+        }
+    }
+
+    /// The events in order, as they are kept.
+    pub fn kept_events(&self) -> KeptEvents<'_>
+        ensures { result ≡ self.now.events }
+    {
+        KeptEvents {
             kept: &self.kept,
             beside: &self.beside,
         }

@@ -2,7 +2,7 @@ ghost use Rattle.std.specs.Prelude.{◌≡◌};
 ghost use Rattle.journal.specs.Packing.{event_of, last_number};
 
 use crate::parts::{Kind, Parts};
-use flex_base::{Engine, Event, HartId};
+use flex_base::{Engine, HartId, What};
 
 // The last number of an event. In the runs of a machine it is the number of a register, the cause of
 // a trap, which for an interrupt has bit 63 set, or 0.
@@ -46,10 +46,10 @@ pub(crate) struct Kept {
 }
 
 impl Kept {
-    // The event, where the next of the numbers beside is given.
-    #[inline]
-    pub(crate) fn event(&self, beside: u64) -> Event
-        ensures { result ≡ event_of self.now beside }
+    // What happened, where the next of the numbers beside is given.
+    #[inline(always)]
+    pub(crate) fn what(&self, beside: u64) -> What
+        ensures { result ≡ (event_of self.now beside).what }
     {
         let last = match self.last {
             Last::Small(number) => number as u64,
@@ -64,11 +64,6 @@ impl Kept {
             third: self.third,
             last,
         };
-        Event {
-            number: self.number,
-            hart: self.hart,
-            engine: self.engine,
-            what: parts.what(),
-        }
+        parts.what()
     }
 }

@@ -5,11 +5,13 @@ mod by_number;
 mod events;
 mod hart_log;
 mod kept;
+mod kept_event;
 mod parts;
 
 pub use by_number::pick;
 pub use events::Events;
 pub use hart_log::HartLog;
+pub use kept_event::{KeptEvent, KeptEvents};
 
 #[cfg(test)]
 mod tests;

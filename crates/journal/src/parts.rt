@@ -42,14 +42,7 @@ impl Parts {
     {
         match *what {
             What::Acc(access, reply) => Parts::of_access(access, reply),
-            What::End(end) => Parts {
-                kind: Kind::End(end.class),
-                stop: false,
-                first: end.pc,
-                second: end.next,
-                third: end.second,
-                last: end.first,
-            },
+            What::End(end) => Parts::of_end(end),
             What::Handover(to) => Parts {
                 kind: Kind::Handover(to),
                 stop: false,
@@ -62,7 +55,21 @@ impl Parts {
     }
 
     #[inline]
-    fn of_access(access: Access, reply: Reply) -> Parts
+    pub(crate) fn of_end(end: EndPart) -> Parts
+        ensures { what_of result ≡ What.End end }
+    {
+        Parts {
+            kind: Kind::End(end.class),
+            stop: false,
+            first: end.pc,
+            second: end.next,
+            third: end.second,
+            last: end.first,
+        }
+    }
+
+    #[inline]
+    pub(crate) fn of_access(access: Access, reply: Reply) -> Parts
         ensures { what_of result ≡ What.Acc access reply }
     {
         match access {

@@ -54,6 +54,7 @@ fn a_log_gives_what_was_pushed(rt: HostRuntime) -> Result<(), Fail> {
         log.push(one);
     }
     assert_eq!(rt; log.room(), 0);
+    assert_eq!(rt; log.len(), 5);
     let mut read = log.events();
     for one in pushed {
         assert_eq!(rt; read.next(), Some(one));

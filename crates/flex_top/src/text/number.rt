@@ -1,4 +1,4 @@
-ghost use Rattle.std.specs.Prelude.{◌≡◌, ◌+◌, ◌≤◌, ◌++◌, length, decimal};
+ghost use Rattle.std.specs.Prelude.{◌≡◌, ◌+◌, ◌-◌, ◌^◌, ◌<◌, ◌≤◌, ◌++◌, length, decimal};
 
 use crate::text::put::Put;
 use itoa::Buffer;
@@ -46,17 +46,44 @@ impl Number {
     pub fn go_to(&mut self, value: u64)
         ensures { self.new ≡ value }
     {
-        let last = self.count - 1;
-        if self.value < value && value - self.value == 1 && self.digits[last] < b'9' {
-            self.digits[last] += 1;
-            self.value = value;
+        if value != 0 && self.value == value - 1 {
+            self.count_up();
         } else {
             self.change_to(value);
         }
     }
 
-    // Makes all digits anew, as where there is one to carry.
-    #[cold]
+    #[inline(always)]
+    fn count_up(&mut self)
+        requires { self.old < 2 ^ 64 - 1 }
+        ensures { self.new ≡ self.old + 1 }
+    {
+        let last = self.count - 1;
+        if self.digits[last] < b'9' {
+            self.digits[last] += 1;
+            self.value += 1;
+        } else {
+            self.carry();
+        }
+    }
+
+    // After a nine: most often the digit before counts up.
+    fn carry(&mut self)
+        requires { self.old < 2 ^ 64 - 1 }
+        ensures { self.new ≡ self.old + 1 }
+    {
+        let last = self.count - 1;
+        if last > 0 && self.digits[last] == b'9' && self.digits[last - 1] < b'9' {
+            self.digits[last - 1] += 1;
+            self.digits[last] = b'0';
+            self.value += 1;
+        } else {
+            self.change_to(self.value + 1);
+        }
+    }
+
+    // Makes all digits anew.
+    #[inline(never)]
     fn change_to(&mut self, value: u64)
         ensures { self.new ≡ value }
     {

@@ -1,6 +1,6 @@
 use super::*;
 use crate::text::Tail;
-use flex_base::{Engine, HartId, MemoryOuter, Stop, What};
+use flex_base::{Engine, Event, HartId, MemoryOuter, Stop, What};
 use hart_story::Hart;
 use std::alloc::{AllocError, Global};
 use std::test::Fail;
@@ -39,12 +39,13 @@ fn write_small(alloc: Global, failing: &[u64]) -> Result<(MemoryOuter, bool), Al
         ram: 1 << 20,
         budget: 3,
     };
-    let events = [Event {
+    let mut events = HartLog::new(alloc, 1)?;
+    events.push(Event {
         number: 0,
         hart: HartId(1),
         engine: Engine::Pipe,
         what: What::Handover(Engine::Kernel),
-    }];
+    });
     let done = write_trace(
         &mut outer,
         "out",

@@ -1,5 +1,5 @@
 -- The answer and what is left are those of the run of the file's image.
-use Rattle.std.proofs.Common.{◌≡◌, ℕ, List, None, Some, map, ap, sym, subst, ◌∙◌, arith}
+use Rattle.std.proofs.Common.{◌≡◌, ℕ, List, None, Some, map, ap, sym, subst, ◌∙◌, arith, refl}
 use Rattle.flex_base.specs.Unsplit.{begin, reach}
 use Rattle.flex_base.specs.Rounds.{names_played}
 use Rattle.flex_base.specs.Built.{first_unbuilt}
@@ -60,7 +60,7 @@ returns-in-Ok-write_trace-clause-ended g c = λ at.
     let Done : List ℕ → Type 0 = λ ns. IsReached setup (names_played setup ns) c.play.new.self in
     let done = subst Done order_is (c.in-Ok-play.ensures setup ready.at) in
     leaves_all (reading_of_command command) taken.start (image_in c.args.file.items command.settings.ram) (g.O.Outer.outside c.args.outer.now) (g.O.Outer.outside c.write_trace.new.outer) c.play.new.self
-    c.deref-2.result.now c.lines.result.now taken.is done c.deref-2.ensures.value (c.lines.ensures ∙ c.fill_tail.ensures setup (reach setup (names_played setup (map hart_of command.order.now))) done.at)
+    c.play.new.self.run.events.events c.lines.result.now taken.is done refl (c.lines.ensures ∙ c.fill_tail.ensures setup (reach setup (names_played setup (map hart_of command.order.now))) done.at)
     c.in-Ok-write_trace.ensures.ok c.in-Ok-write_trace.ensures.frame.said
 
 pub returns-clause-answer : goal.returns-clause-answer
@@ -84,5 +84,5 @@ returns-clause-cut g c = λ at.
     let Done : List ℕ → Type 0 = λ ns. IsReached setup (names_played setup ns) c.play.new.self in
     let done = subst Done order_is (c.in-Ok-play.ensures setup ready.at) in
     leaves_part (reading_of_command command) taken.start (image_in c.args.file.items command.settings.ram) (g.O.Outer.outside c.args.outer.now) (g.O.Outer.outside c.write_trace.new.outer) c.play.new.self
-    c.deref-2.result.now c.lines.result.now taken.is done c.deref-2.ensures.value (c.lines.ensures ∙ c.fill_tail.ensures setup (reach setup (names_played setup (map hart_of command.order.now))) done.at)
+    c.play.new.self.run.events.events c.lines.result.now taken.is done refl (c.lines.ensures ∙ c.fill_tail.ensures setup (reach setup (names_played setup (map hart_of command.order.now))) done.at)
     c.in-Err-write_trace.ensures.err c.in-Err-write_trace.ensures.frame.said

@@ -48,8 +48,8 @@ finish-part-requires c =
     let there = in_hart setup u c.args.self.now h c.index_mut-in-Finish.result.now c.index-in-Finish.result.now at below c.index_mut-in-Finish.ensures.value c.index-in-Finish.ensures in
     (setup, instruction_at u h, ending.part, ending.after, there, ending.ends)
 
-pub add-requires-clause-class : goal.add-requires-clause-class
-add-requires-clause-class c =
+pub add_access-requires-clause-class : goal.add_access-requires-clause-class
+add_access-requires-clause-class c =
     let setup = c.requires.at.0 in
     let u = c.requires.at.1 in
     let at = c.requires.at.2 in
@@ -61,8 +61,8 @@ add-requires-clause-class c =
     let same : need.Ask access class ≡ need.Ask access (class_of_access access) = told ∙ ap need_of (needs_ask access class (want_of setup u h) told) in
     cc
 
-pub add-requires-in-Finish-clause-class : goal.add-requires-in-Finish-clause-class
-add-requires-in-Finish-clause-class c =
+pub add_end-requires-clause-class : goal.add_end-requires-clause-class
+add_end-requires-clause-class c =
     let setup = c.requires.at.0 in
     let u = c.requires.at.1 in
     let at = c.requires.at.2 in
@@ -76,8 +76,8 @@ add-requires-in-Finish-clause-class c =
     let same : need.Finish class ≡ need.Finish c.finish-part.result.class = told ∙ ap need_of ended.ends in
     cc
 
-pub returns-in_ok-add-in-Ask-clause-after : goal.returns-in_ok-add-in-Ask-clause-after
-returns-in_ok-add-in-Ask-clause-after c = λ setup u at.
+pub returns-in_ok-add_access-in-Ask-clause-after : goal.returns-in_ok-add_access-in-Ask-clause-after
+returns-in_ok-add_access-in-Ask-clause-after c = λ setup u at.
     let player = c.args.self.now in
     let h = c.args.h in
     let below : h < setup.harts = omega (arith, c.requires.hart, at.harts) in
@@ -97,17 +97,17 @@ returns-in_ok-add-in-Ask-clause-after c = λ setup u at.
     let memory = subst Kept reply (c.act-told.ensures.serves setup u at.memory) in
     let over = c.give.ensures.over setup i access there asks c.act-told.ensures.form
     ∙ ap (λ (r : Reply). is_retire access || r.stop) reply ∙ ap (λ b. is_retire access || b) (tells_no_stop setup u h access) ∙ or_false (is_retire access) in
-    let run = c.in_ok-add-in-Ask.ensures.event ∙ ap (λ r. split_event default_plan (splitting_of player.run) (does h (what.Acc access r))) reply in
+    let run = c.in_ok-add_access-in-Ask.ensures.event ∙ ap (λ r. split_event default_plan (splitting_of player.run) (does h (what.Acc access r))) reply in
     record {
       stepped = record {
-        at = at_access setup u player _ h access c.give.new.progress below at asks hart refl over refl refl memory c.in_ok-add-in-Ask.ensures.size run;
+        at = at_access setup u player _ h access c.give.new.progress below at asks hart refl over refl refl memory c.in_ok-add_access-in-Ask.ensures.size run;
         built = built_here setup u h below (ap is_built asks);
       };
       names = turn_of-asks setup u h access below within asks;
     }
 
-pub returns-in_ok-add-in-Finish-clause-after : goal.returns-in_ok-add-in-Finish-clause-after
-returns-in_ok-add-in-Finish-clause-after c = λ setup u at.
+pub returns-in_ok-add_end-in-Finish-clause-after : goal.returns-in_ok-add_end-in-Finish-clause-after
+returns-in_ok-add_end-in-Finish-clause-after c = λ setup u at.
     let player = c.args.self.now in
     let h = c.args.h in
     let below : h < setup.harts = omega (arith, c.requires.hart, at.harts) in
@@ -126,7 +126,7 @@ returns-in_ok-add-in-Finish-clause-after c = λ setup u at.
     let before = ends_not_done setup i (progress_at player h) ending.part ending.after (at.each h c.index.result.now below).in_story.reached ending.ends in
     record {
       stepped = record {
-        at = at_end setup u player _ h c.finish-part.result ended.after c.finish-part.new.hart below at ended.ends hart refl before refl (ap (λ p. set player.progress.items h p) c.begin.ensures) refl c.in_ok-add-in-Finish.ensures.size c.in_ok-add-in-Finish.ensures.event;
+        at = at_end setup u player _ h c.finish-part.result ended.after c.finish-part.new.hart below at ended.ends hart refl before refl (ap (λ p. set player.progress.items h p) c.begin.ensures) refl c.in_ok-add_end-in-Finish.ensures.size c.in_ok-add_end-in-Finish.ensures.event;
         built = built_here setup u h below (ap is_built ending.ends);
       };
       names = turn_of-ends setup u h ending.part ending.after ending.ends;

@@ -1,31 +1,29 @@
 use Rattle.std.proofs.Common.{◌≡◌, ℕ, ◌-◌, ◌++◌, [], ◌∷◌, append-nil, sym, ap, ◌∙◌}
 use Rattle.flex_base.specs.declared.event.Event.{Event}
-use Rattle.flex_base.specs.declared.event.What.{What}
-use Rattle.journal.specs.Packing.{event_of, view_of}
+use Rattle.journal.specs.Packing.{event_by, event_of, view_of, what_of}
 use Rattle.journal.specs.declared.kept.Kept.{Kept}
 use Rattle.journal.proofs.Packed.{pushed, more_beside, more_beside-beside, more_beside-small}
 use Rattle.journal.specs.declared.hart_log.HartLog.TheInside.{Inside}
-use Rattle.journal.proofs.hart_log.HartLog.push.Goals as goal
-use Rattle.journal.proofs.hart_log.HartLog.push.Goals.{in-Beside, in_default}
+use Rattle.journal.proofs.hart_log.HartLog.push_parts.Goals as goal
+use Rattle.journal.proofs.hart_log.HartLog.push_parts.Goals.{in-Beside, in_default}
 
 pub returns : goal.returns
 returns c =
-    let event : Event = c.args.event in
-    let parts = c.of-parts.result in
+    let parts = c.args.parts in
+    let event : Event = record { number = c.args.number; hart = c.args.hart; engine = c.args.engine; what = what_of parts } in
     let n : ℕ = parts.last in
     let k : Kept = record {
-      number = event.number;
+      number = c.args.number;
       first = parts.first;
       second = parts.second;
       third = parts.third;
-      hart = event.hart;
-      engine = event.engine;
+      hart = c.args.hart;
+      engine = c.args.engine;
       kind = parts.kind;
       stop = parts.stop;
       last = c.of-last.result;
     } in
-    let with : What → Event = λ w. record { number = event.number; hart = event.hart; engine = event.engine; what = w } in
-    let is : event_of k n ≡ event = rw c.of-last.ensures (ap with c.of-parts.ensures) in
+    let is : event_of k n ≡ event = ap (event_by k) c.of-last.ensures in
     let i = c.self.inside in
     let m = c.match-last.self-inside in
     let new = c.push_reserved-2.new.self.items in
