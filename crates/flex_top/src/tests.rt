@@ -48,6 +48,63 @@ const OUTSIDE: [u8; 20] = [
     0x23, 0x20, 0x73, 0x00,
 ];
 
+// `auipc x5, 0`, `addi x5, x5, 16`, `csrrw x0, mtvec, x5`, `ecall`, and where that leads: `csrrs x6,
+// mcause, x0`, `csrrs x7, time, x0`, `csrrs x8, mip, x0` and `mret`.
+const TRAPPING: [u8; 32] = [
+    0x97, 0x02, 0x00, 0x00, 0x93, 0x82, 0x02, 0x01, 0x73, 0x90, 0x52, 0x30, 0x73, 0x00, 0x00, 0x00,
+    0x73, 0x23, 0x20, 0x34, 0xf3, 0x23, 0x10, 0xc0, 0x73, 0x24, 0x40, 0x34, 0x73, 0x00, 0x20, 0x30,
+];
+
+const TRAPPED: &str = "trace 1 harts 1 ram 1 budget 9
+0 0 p fetch 0000000080000000 00000297
+1 0 p end alu 0000000080000000 0000000080000004 x5 0000000080000000
+2 0 p fetch 0000000080000004 01028293
+3 0 p end alu 0000000080000004 0000000080000008 x5 0000000080000010
+4 0 p fetch 0000000080000008 30529073
+5 0 p to k
+6 0 k end csr 0000000080000008 000000008000000c x0 0000000000000000
+7 0 k to p
+8 0 p fetch 000000008000000c 00000073
+9 0 p to k
+10 0 k end trap 000000008000000c 0000000080000010 000000000000000b 0000000000000000
+11 0 k to p
+12 0 p fetch 0000000080000010 34202373
+13 0 p to k
+14 0 k end csr 0000000080000010 0000000080000014 x6 000000000000000b
+15 0 k to p
+16 0 p fetch 0000000080000014 c01023f3
+17 0 p to k
+18 0 k time 0000000000000000
+19 0 k end csr 0000000080000014 0000000080000018 x7 0000000000000000
+20 0 k to p
+21 0 p fetch 0000000080000018 34402473
+22 0 p to k
+23 0 k pulse 0 0000000000000000 0 0
+24 0 k end csr 0000000080000018 000000008000001c x8 0000000000000000
+25 0 k to p
+26 0 p fetch 000000008000001c 30200073
+27 0 p to k
+28 0 k end system 000000008000001c 000000008000000c x0 0000000000000000
+29 0 k pulse 0 0000000000000000 0 0
+30 0 k to p
+31 0 p fetch 000000008000000c 00000073
+32 0 p to k
+33 0 k end trap 000000008000000c 0000000080000010 000000000000000b 0000000000000000
+34 0 k retire
+stop budget
+hart 0 ends 9 mode m pc 0000000080000010
+hart 0 x5 0000000080000010
+hart 0 x6 000000000000000b
+hart 0 csr 300 0000000a00001800
+hart 0 csr 305 0000000080000010
+hart 0 csr 341 000000008000000c
+hart 0 csr 342 000000000000000b
+hart 0 csr b00 0000000000000009
+hart 0 csr b02 0000000000000007
+ram a362596712ccacd3187b8c0a258256d21846a7df9884485d810357a33acd0a78
+done
+";
+
 const REWRITTEN: &str = "trace 1 harts 1 ram 1 budget 4
 0 0 p fetch 0000000080000000 00000297
 1 0 p end alu 0000000080000000 0000000080000004 x5 0000000080000000
@@ -191,6 +248,12 @@ fn takes_the_harts_in_the_order(rt: HostRuntime) -> Result<(), AllocError> {
 fn executes_what_it_stored(rt: HostRuntime) -> Result<(), AllocError> {
     let line = "solo img out --ram=1 --budget=4";
     assert_trace(&rt, rt.alloc(), &REWRITING, line, REWRITTEN)
+}
+
+#[test]
+fn takes_traps_and_returns(rt: HostRuntime) -> Result<(), AllocError> {
+    let line = "solo img out --ram=1 --budget=9";
+    assert_trace(&rt, rt.alloc(), &TRAPPING, line, TRAPPED)
 }
 
 #[test]

@@ -26,6 +26,9 @@ fn write_small(alloc: Global, failing: &[u64]) -> Result<(MemoryOuter, bool), Al
     let mut outer = MemoryOuter::new(alloc, Vec::new(alloc), failing);
     let mut pieces = Pieces::new(alloc)?;
     let mut first = Hart::start(HartId(0), 0x8000_0004);
+    for _ in 0..3 {
+        first.csrs.count(true, true);
+    }
     first.regs.ends = 3;
     first.regs.x[5] = 7;
     let mut tail = Tail::new(alloc)?;
