@@ -1,5 +1,5 @@
 -- What a command does where files are told: by the files that can be taken, the same holds as by those that it goes by.
-use Rattle.std.proofs.Common.{◌≡◌, Option, None, Some, subst, sym, ap, ◌∙◌}
+use Rattle.std.proofs.Common.{◌≡◌, Option, None, Some, subst, ap, ◌∙◌}
 use Rattle.std.specs.Prelude.{IfSome, IsSomeAnd}
 use Rattle.flex_base.specs.Files.{Files}
 use Rattle.flex_base.specs.Outside.{Outside}
