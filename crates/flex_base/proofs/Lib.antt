@@ -2,7 +2,6 @@ pub mod Places
 pub mod Stories
 pub mod Machines
 pub mod Orders
-pub mod Obeying
 pub mod Turns
 pub mod Standing
 pub mod Quiet

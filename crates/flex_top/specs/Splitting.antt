@@ -1,5 +1,5 @@
 -- The split run that the player keeps.
-use Rattle.flex_base.specs.Split.{Splitting}
+use Rattle.transplant_plan.specs.Split.{Splitting}
 use Rattle.flex_top.specs.declared.split_run.SplitRun.{SplitRun}
 
 abbrev pub splitting_of : SplitRun → Splitting
