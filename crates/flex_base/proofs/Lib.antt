@@ -3,7 +3,6 @@ pub mod Beginning
 pub mod Stories
 pub mod Machines
 pub mod Orders
-pub mod Obeying
 pub mod Turns
 pub mod Standing
 pub mod Quiet

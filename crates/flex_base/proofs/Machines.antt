@@ -9,7 +9,7 @@ use Rattle.flex_base.specs.Story.{Want, Asks, Ends, IsOver, IsLater, Story, Says
 use Rattle.flex_base.specs.Unsplit.{Machine, Instruction, instruction_from, does, begin, instruction_at, story_of, want_of, reply_to, instruction_after, make, step, reach_from}
 use Rattle.flex_base.specs.declared.access.Access.{Access}
 use Rattle.flex_base.specs.declared.access.Reply.{Reply}
-use Rattle.flex_base.specs.Split.{is_handover}
+use Rattle.flex_base.specs.Journal.{is_handover}
 use Rattle.flex_base.specs.declared.event.EndPart.{EndPart}
 use Rattle.flex_base.specs.declared.event.What.{What}
 use Rattle.flex_base.specs.declared.event.What.TheVariants as what

@@ -6,15 +6,13 @@ use Rattle.std.proofs.lemmas.List.Elements.{filter_map-append}
 use Rattle.flex_base.specs.Setup.{Setup}
 use Rattle.flex_base.specs.Story.{Want, Asks, Ends, IsOver, IsLater, Story, Says, Closes, StaysOver, ComesLater, want}
 use Rattle.flex_base.specs.Unsplit.{Machine, Made, instruction_at, story_of, want_of, reply_to, make, step, begin, unsplit, reach_from, does}
-use Rattle.flex_base.specs.Split.{Plan, split}
-use Rattle.flex_base.specs.Journal.{byte_of, sent, console}
+use Rattle.flex_base.specs.Journal.{byte_of, sent}
 use Rattle.flex_base.specs.declared.access.Access.{Access}
 use Rattle.flex_base.specs.declared.access.Access.TheVariants as acc
 use Rattle.flex_base.specs.declared.access.Reply.{Reply}
 use Rattle.flex_base.specs.declared.event.What.{What}
 use Rattle.flex_base.specs.declared.event.What.TheVariants as what
 use Rattle.flex_base.proofs.Machines.{reach-cons, reach-none}
-use Rattle.flex_base.proofs.Orders.{strip-split-unsplit}
 use Rattle.flex_base.proofs.Standing.{IsSilent, Leads, Stands, Works, Retires, Retired, AllStand, all_step, all_begin}
 
 sent_push : (made : List Made) (h : ℕ) (happened : What) → byte_of happened ≡ None → sent (made ++ does h happened ∷ []) ≡ sent made
@@ -70,9 +68,6 @@ sent-none : sent [] ≡ []
 unfolding sent
 sent-none = refl
 
--- no run writes to the console
-pub console_quiet : (setup : Setup) (plan : Plan) (order : List ℕ) → console (split plan setup.harts (unsplit setup order)) ≡ []
-console_quiet setup plan order =
-    ap sent (strip-split-unsplit setup plan order)
-    ∙ quiet_from setup (begin setup) order (all_begin setup)
-    ∙ sent-none
+-- no run transmits a byte
+pub sent_quiet : (setup : Setup) (order : List ℕ) → sent (unsplit setup order) ≡ []
+sent_quiet setup order = quiet_from setup (begin setup) order (all_begin setup) ∙ sent-none

@@ -1,5 +1,5 @@
 -- Classes of work, and the engines that can run them.
-use Rattle.std.specs.Prelude.{ℕ, Bool, true, false, not, if◌then◌else◌}
+use Rattle.std.specs.Prelude.{Bool, true, false, not}
 use Rattle.flex_base.specs.declared.access.Access.{Access}
 use Rattle.flex_base.specs.declared.access.Access.TheVariants as acc
 use Rattle.flex_base.specs.declared.class.Class.{Class}
@@ -78,7 +78,3 @@ abbrev pub can_run : Class → Engine → Bool
 can_run class engine.Pipe = is_common class
 can_run class engine.Kernel = not (is_device class)
 can_run class engine.Host = true
-
--- the default plan gives each class of each hart to the first of pipe, kernel and host that can run it
-abbrev pub default_plan : ℕ → Class → Engine
-default_plan hart class = if is_common class then engine.Pipe else (if is_device class then engine.Host else engine.Kernel)

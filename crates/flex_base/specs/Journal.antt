@@ -4,11 +4,14 @@ use Rattle.std.specs.List.{filter_map, range_with_len}
 use Rattle.std.specs.Prelude.{Option, None, Some}
 use Rattle.flex_base.specs.Setup.{Setup}
 use Rattle.flex_base.specs.Unsplit.{Made, does, unsplit}
-use Rattle.flex_base.specs.Split.{is_handover}
 use Rattle.flex_base.specs.declared.access.Access.TheVariants as acc
 use Rattle.flex_base.specs.declared.event.Event.{Event}
 use Rattle.flex_base.specs.declared.event.What.{What}
 use Rattle.flex_base.specs.declared.event.What.TheVariants as what
+
+abbrev pub is_handover : What → Bool
+is_handover (what.Handover to) = true
+is_handover other = false
 
 -- the journal without handovers, engines and numbers
 unfoldable pub strip : List Event → List Made

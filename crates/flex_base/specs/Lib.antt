@@ -28,5 +28,4 @@ pub mod Unsplit
 pub mod Rounds
 pub mod Built
 pub mod EndOfRun
-pub mod Split
 pub mod Journal

@@ -10,11 +10,11 @@ use Rattle.std.proofs.lemmas.List.Sums.{fold_push}
 use Rattle.flex_base.specs.Setup.{Setup}
 use Rattle.flex_base.specs.State.{State, start}
 use Rattle.flex_base.specs.Story.{Asks, Ends}
-use Rattle.flex_base.specs.Classes.{default_plan}
+use Rattle.transplant_plan.specs.Assignment.{default_plan}
 use Rattle.flex_base.specs.FlatMemory.{Done, is_ram_access}
 use Rattle.flex_base.specs.Unsplit.{Machine, Made, Instruction, instruction_at, instruction_from, instruction_after, want_of, reply_to, step, make, makes, does, with_access, hart_numbers}
 use Rattle.flex_base.specs.DevicesSoFar.{device_reply, is_spent, is_retire}
-use Rattle.flex_base.specs.Split.{Plan, split_event, split_run, first_split}
+use Rattle.transplant_plan.specs.Split.{Plan, split_event, split_run, first_split}
 use Rattle.flex_base.specs.declared.access.Access.{Access}
 use Rattle.flex_base.specs.declared.access.Access.TheVariants as acc
 use Rattle.flex_base.specs.declared.access.Reply.{Reply}

@@ -6,9 +6,9 @@ use Rattle.flex_base.specs.Loaded.{Loaded, image_fits}
 use Rattle.flex_base.specs.Limits.{is_lawful, mebibyte}
 use Rattle.flex_base.specs.Word.{is_multiple}
 use Rattle.flex_base.specs.State.{start}
-use Rattle.flex_base.specs.Classes.{default_plan}
+use Rattle.transplant_plan.specs.Assignment.{default_plan}
 use Rattle.flex_base.specs.Unsplit.{Instruction, instruction_from, begin}
-use Rattle.flex_base.specs.Split.{Splitting}
+use Rattle.transplant_plan.specs.Split.{Splitting}
 use Rattle.flex_base.specs.declared.class.Class.TheVariants as class
 use Rattle.flex_base.specs.declared.settings.Settings.{Settings}
 use Rattle.hart_story.specs.Progress.{IsIn, IsSoundProgress, node, is_done}

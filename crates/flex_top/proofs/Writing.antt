@@ -4,16 +4,16 @@ use Rattle.std.specs.List.{range_with_len}
 use Rattle.flex_base.specs.Place.{ram_base}
 use Rattle.flex_base.specs.Setup.{Setup}
 use Rattle.flex_base.specs.FlatMemory.{byte}
-use Rattle.flex_base.specs.Classes.{default_plan}
+use Rattle.transplant_plan.specs.Assignment.{default_plan}
 use Rattle.flex_base.specs.Unsplit.{Machine, reach, has_ended}
 use Rattle.flex_base.specs.Rounds.{names_played}
-use Rattle.flex_base.specs.Split.{Splitting, Plan, split_run, first_split}
+use Rattle.transplant_plan.specs.Split.{Splitting, Plan, split_run, first_split}
 use Rattle.flex_base.specs.Journal.{console}
 use Rattle.flex_base.specs.declared.event.Event.{Event}
-use Rattle.flex_base.proofs.Orders.{reach-order_of, split_legal}
-use Rattle.flex_base.proofs.Obeying.{split_obeys}
+use Rattle.transplant_plan.proofs.Splits.{reach-order_of, split_legal}
+use Rattle.transplant_plan.proofs.Obeying.{split_obeys}
 use Rattle.flex_base.proofs.EndOfRun.{run_goes_on}
-use Rattle.flex_base.proofs.Quiet.{console_quiet}
+use Rattle.transplant_plan.proofs.Splits.{console_quiet}
 use Rattle.flex_top.specs.Answer.{journal_of, trace_of, EndsWhole}
 use Rattle.flex_top.specs.Play.{IsReached}
 use Rattle.flex_top.specs.Trace.{settings_of, ram_bytes, tail_of, whole_text, trace_text}

@@ -3,11 +3,11 @@ use Rattle.std.specs.Prelude.{◌≡◌, ℕ, true, if◌then◌else◌, nat_lt,
 use Rattle.flex_base.specs.Loaded.{Loaded}
 use Rattle.flex_base.specs.Setup.{Setup}
 use Rattle.flex_base.specs.Files.{Files}
-use Rattle.flex_base.specs.Classes.{default_plan}
+use Rattle.transplant_plan.specs.Assignment.{default_plan}
 use Rattle.flex_base.specs.Unsplit.{begin, unsplit, reach, has_ended}
 use Rattle.flex_base.specs.Rounds.{names_played}
 use Rattle.flex_base.specs.Built.{first_unbuilt}
-use Rattle.flex_base.specs.Split.{split, Obeys}
+use Rattle.transplant_plan.specs.Split.{split, Obeys}
 use Rattle.flex_base.specs.Journal.{IsLegal, order_of, console}
 use Rattle.flex_base.specs.declared.event.Event.{Event}
 use Rattle.flex_base.specs.declared.settings.Settings.{Settings}

@@ -2,12 +2,12 @@
 use Rattle.std.specs.Prelude.{◌≡◌, ℕ, ◌<◌, ◌≤◌, List, [], ◌∷◌, ◌++◌, length, slice_index_or, None, Some, Result, Ok, Err}
 use Rattle.flex_base.specs.Setup.{Setup}
 use Rattle.flex_base.specs.State.{start}
-use Rattle.flex_base.specs.Classes.{default_plan}
+use Rattle.transplant_plan.specs.Assignment.{default_plan}
 use Rattle.flex_base.specs.Unsplit.{Machine, instruction_at, begin, step, reach, reach_from, hart_numbers}
 use Rattle.flex_base.specs.DevicesSoFar.{is_spent}
 use Rattle.flex_base.specs.Rounds.{turn_of, turns, repeated, most_rounds}
 use Rattle.flex_base.specs.Built.{unbuilt_at, first_unbuilt}
-use Rattle.flex_base.specs.Split.{split_run, first_split}
+use Rattle.transplant_plan.specs.Split.{split_run, first_split}
 use Rattle.flex_base.specs.declared.settings.Layout.{Layout}
 use Rattle.flex_base.specs.declared.settings.Settings.{Settings}
 use Rattle.hart_story.specs.StandsFor.{StandsFor}

@@ -1,7 +1,7 @@
 -- The split run that the player keeps.
 use Rattle.std.specs.Prelude.{ℕ, slice_set}
-use Rattle.flex_base.specs.Classes.{default_plan}
-use Rattle.flex_base.specs.Split.{Splitting, holder_of, with_handover}
+use Rattle.transplant_plan.specs.Assignment.{default_plan}
+use Rattle.transplant_plan.specs.Split.{Splitting, holder_of, with_handover}
 use Rattle.flex_base.specs.declared.engine.Engine.{Engine}
 use Rattle.flex_top.specs.declared.split_run.SplitRun.{SplitRun}
 

@@ -1,7 +1,8 @@
 ghost use Rattle.std.specs.Prelude.{◌≡◌, ◌+◌, ◌<◌, ◌≤◌, IfOk, OnOk, length};
-ghost use Rattle.flex_base.specs.Classes.{class_of_access, default_plan};
+ghost use Rattle.flex_base.specs.Classes.{class_of_access};
+ghost use Rattle.transplant_plan.specs.Assignment.{default_plan};
 ghost use Rattle.flex_base.specs.Unsplit.{does};
-ghost use Rattle.flex_base.specs.Split.{split_event, first_split, with_number};
+ghost use Rattle.transplant_plan.specs.Split.{split_event, first_split, with_number};
 
 use flex_base::{Access, Class, EndPart, Engine, Event, HartId, Reply, What, capable};
 use journal::HartLog;

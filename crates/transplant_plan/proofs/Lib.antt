@@ -4,3 +4,5 @@ mod Plans
 mod Printed
 mod Readings
 mod Engines
+pub mod Splits
+pub mod Obeying

@@ -1,10 +1,11 @@
 -- What a plan says.
-use Rattle.std.specs.Prelude.{ℕ, ℤ, pos, Bool, List, [], ◌∷◌}
+use Rattle.std.specs.Prelude.{ℕ, ℤ, pos, Bool, if◌then◌else◌, List, [], ◌∷◌}
 use Rattle.std.specs.List.{list_any}
 use Rattle.std.specs.Ordering.{int_eq}
-use Rattle.flex_base.specs.Classes.{default_plan}
+use Rattle.flex_base.specs.Classes.{is_common, is_device}
 use Rattle.flex_base.specs.declared.class.Class.{Class}
 use Rattle.flex_base.specs.declared.engine.Engine.{Engine}
+use Rattle.flex_base.specs.declared.engine.Engine.TheVariants as engine
 
 -- the engine of each hart for each class, and how many banks of memory, pipes and kernels there are
 pub record Assignment : Type 0 where
@@ -12,6 +13,10 @@ pub record Assignment : Type 0 where
   pub banks : ℕ
   pub pipes : ℕ
   pub kernels : ℕ
+
+-- the default plan gives each class of each hart to the first of pipe, kernel and host that can run it
+abbrev pub default_plan : ℕ → Class → Engine
+default_plan hart class = if is_common class then engine.Pipe else (if is_device class then engine.Host else engine.Kernel)
 
 -- where no file says otherwise
 abbrev pub default_banks : ℕ

@@ -4,3 +4,4 @@ pub mod PlanFile
 pub mod Planning
 pub mod Shown
 pub mod Document
+pub mod Split

@@ -6,11 +6,11 @@ use Rattle.std.specs.Str.{bytes_eq}
 use Rattle.std.specs.Str.Lossy.{utf8_valid_len}
 use Rattle.toml.specs.Data.{Data, string, integer, table, Members, no_members, member, get_member, as_str, as_integer, as_table}
 use Rattle.toml.specs.Parse.{parse_document}
-use Rattle.flex_base.specs.Classes.{can_run, default_plan}
+use Rattle.flex_base.specs.Classes.{can_run}
 use Rattle.flex_base.specs.declared.class.Class.{Class}
 use Rattle.flex_base.specs.declared.engine.Engine.{Engine}
 use Rattle.transplant_plan.specs.Names.{class_name, class_named, engine_named}
-use Rattle.transplant_plan.specs.Assignment.{Assignment, bank_counts, pipe_counts, kernel_counts, default_banks, default_pipes, default_kernels, is_allowed}
+use Rattle.transplant_plan.specs.Assignment.{Assignment, default_plan, bank_counts, pipe_counts, kernel_counts, default_banks, default_pipes, default_kernels, is_allowed}
 use Rattle.transplant_plan.specs.declared.fault.PlanFault.{PlanFault}
 use Rattle.transplant_plan.specs.declared.fault.PlanFault.TheVariants as fault
 

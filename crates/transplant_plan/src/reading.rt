@@ -1,10 +1,10 @@
 ghost use Rattle.std.specs.Prelude.{◌≡◌, ◌≢◌, None, Some, Ok, Err, IfOk, IfErr, IfSome, true, pos, codes, option_map};
 ghost use Rattle.toml.specs.View.{table_view};
-ghost use Rattle.flex_base.specs.Classes.{can_run, default_plan};
+ghost use Rattle.flex_base.specs.Classes.{can_run};
 ghost use Rattle.transplant_plan.specs.PlanFile.{plan_of, first_fault, top_fault, engine_fault, assignment, string_at, integer_at, table_at, count_or, engine_by};
 ghost use Rattle.transplant_plan.specs.Planning.{engine_at, AllCanRun};
 ghost use Rattle.flex_base.specs.declared.class.Class.{Class};
-ghost use Rattle.transplant_plan.specs.Assignment.{is_allowed};
+ghost use Rattle.transplant_plan.specs.Assignment.{is_allowed, default_plan};
 ghost use Rattle.transplant_plan.specs.Shown.{shown};
 
 use crate::checks::{check_document, count_among};

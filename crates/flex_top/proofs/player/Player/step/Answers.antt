@@ -3,9 +3,10 @@ use Rattle.std.proofs.Common.{◌≡◌, ◌++◌, ◌∷◌, [], ◌||◌, Some
 use Rattle.flex_base.specs.Unsplit.{Machine, instruction_at, instruction_from, want_of, reply_to, does}
 use Rattle.flex_base.specs.Story.{want}
 use Rattle.flex_base.specs.Built.{is_built}
-use Rattle.flex_base.specs.Classes.{class_of_access, default_plan}
+use Rattle.flex_base.specs.Classes.{class_of_access}
+use Rattle.transplant_plan.specs.Assignment.{default_plan}
 use Rattle.flex_base.specs.DevicesSoFar.{is_retire}
-use Rattle.flex_base.specs.Split.{split_event}
+use Rattle.transplant_plan.specs.Split.{split_event}
 use Rattle.flex_base.specs.declared.access.Reply.{Reply}
 use Rattle.flex_base.specs.declared.class.Class.{Class}
 use Rattle.flex_base.specs.declared.event.What.TheVariants as what

@@ -4,6 +4,7 @@ use Rattle.std.specs.Prelude.{◌≡◌, ◌≢◌, ℕ, Bool, true, false, if�
 use Rattle.std.specs.List.{range_with_len}
 use Rattle.flex_base.specs.Classes.{class_of_what}
 use Rattle.flex_base.specs.Unsplit.{Made}
+use Rattle.flex_base.specs.Journal.{is_handover}
 use Rattle.flex_base.specs.declared.class.Class.{Class}
 use Rattle.flex_base.specs.declared.class.Class.TheVariants as class
 use Rattle.flex_base.specs.declared.engine.Engine.{Engine}
@@ -62,10 +63,6 @@ abbrev pub split : Plan → ℕ → List Made → List Event
 split plan harts made = (split_run plan harts made).events
 
 -- Obeying a plan.
-
-abbrev pub is_handover : What → Bool
-is_handover (what.Handover to) = true
-is_handover other = false
 
 -- the engines and events of one hart, handovers among them, without their numbers
 unfoldable pub moves_of : ℕ → List Event → List (Engine × What)

@@ -1,6 +1,5 @@
 -- A split run obeys its plan.
 use Rattle.std.proofs.Common.{◌≡◌, ◌≢◌, ℕ, ◌+◌, ◌<◌, Bool, true, false, if◌then◌else◌, List, [], ◌∷◌, ◌++◌, map, filter, fold, length, ◌==◌, refl, ap, sym, subst, ◌∙◌, arith, inl, inr, append_assoc, append-nil, eq-eqb, get_or, set, length-set, get_or-set_same, get_or-set_other}
-use Rattle.std.specs.List.{range_with_len}
 use Rattle.std.proofs.lemmas.Bool.{cases_eq, cases_lt, ne_eqb}
 use Rattle.std.proofs.lemmas.List.{map-append, get_or_past}
 use Rattle.std.proofs.lemmas.List.Elements.{filter-append}
@@ -8,7 +7,8 @@ use Rattle.std.proofs.lemmas.List.FromFn.{get_or-map-range_with_len, length-map-
 use Rattle.flex_base.specs.Classes.{class_of_what}
 use Rattle.flex_base.specs.Setup.{Setup}
 use Rattle.flex_base.specs.Unsplit.{Made, begin, unsplit}
-use Rattle.flex_base.specs.Split.{Plan, Splitting, event, is_same_engine, with_number, with_handover, holder_of, split_event, first_split, split_run, split, is_handover, moves_of, ByPlan, Nothing, Stays, Moves, Obeys}
+use Rattle.flex_base.specs.Journal.{is_handover}
+use Rattle.transplant_plan.specs.Split.{Plan, Splitting, event, is_same_engine, with_number, with_handover, holder_of, split_event, first_split, split_run, split, moves_of, ByPlan, Nothing, Stays, Moves, Obeys}
 use Rattle.flex_base.specs.declared.class.Class.{Class}
 use Rattle.flex_base.specs.declared.class.Class.TheVariants as class
 use Rattle.flex_base.specs.declared.engine.Engine.{Engine}
@@ -16,7 +16,7 @@ use Rattle.flex_base.specs.declared.engine.Engine.TheVariants as engine
 use Rattle.flex_base.specs.declared.event.Event.{Event}
 use Rattle.flex_base.specs.declared.event.What.{What}
 use Rattle.flex_base.specs.declared.event.What.TheVariants as what
-use Rattle.flex_base.proofs.Orders.{Plain, None, More, added}
+use Rattle.flex_base.proofs.Orders.{Plain, More, added}
 
 -- Engines.
 
