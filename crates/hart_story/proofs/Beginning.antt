@@ -15,9 +15,9 @@ use Rattle.hart_story.specs.declared.progress.Progress.TheVariants as progress
 abbrev pub setup_of : Layout → ℕ → Setup
 setup_of layout budget = record { image = record { entry = 0; parts = [] }; harts = layout.harts; ram = layout.ram; budget = budget }
 
--- the layout of the tests: one hart in 1 MiB of RAM
+-- the layout of the tests: four harts in 1 MiB of RAM
 abbrev pub small : Layout
-small = record { harts = 1; ram = 1048576 }
+small = record { harts = 4; ram = 1048576 }
 
 -- the state that the hart is in
 pub state_of : Hart → State
@@ -37,7 +37,7 @@ unfolding state_of
 is_there hart = record { regs = record { pc = refl; x = refl; mode = refl; reservation = refl; ends = refl; lines = refl; due = refl }; csrs = refl }
 
 pub begun_in : (hart : Hart) (p : Progress) (layout : Layout) (budget : ℕ) → p ≡ progress.Begun → layout ≡ small
-    → ((a : State) → StandsFor hart a → IsFit 1 1048576 budget a) → IsIn (setup_of layout budget) (instruction_from (state_of hart)) hart p layout budget
+    → ((a : State) → StandsFor hart a → IsFit 4 1048576 budget a) → IsIn (setup_of layout budget) (instruction_from (state_of hart)) hart p layout budget
 begun_in hart p layout budget begun is all_fit =
     let a = state_of hart in
     let stands = is_there hart in

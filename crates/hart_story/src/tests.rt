@@ -1,29 +1,79 @@
-ghost use Rattle.std.specs.Prelude.{◌≡◌, ◌*◌, ◌^◌, ◌<◌, true};
-ghost use Rattle.flex_base.specs.State.{State, IsFit, IsReservation};
-ghost use Rattle.flex_base.specs.Forms.{HasForm};
-ghost use Rattle.flex_base.specs.FlatMemory.{reply_with};
-ghost use Rattle.hart_story.specs.StandsFor.{StandsFor};
+ghost use Rattle.std.specs.Prelude.{◌≡◌};
+ghost use Rattle.flex_base.specs.Csrs.{AreFit};
 
 use super::*;
-use flex_base::{Access, AmoOp, Class, EndPart, HartId, Layout, Mode, Place, Reply};
+use csr_traps::Csrs;
+use flex_base::{Access, AmoOp, Class, EndPart, HartId, Layout, Mode, Reply};
 use hart_state::Regs;
+use needs::need_of;
+use playing::play;
 use std::process::Abort;
 
+mod csrs;
+mod interrupts;
 mod needs;
+mod playing;
+mod returns;
+mod traps;
 
 const BUDGET: u64 = 100;
 
-// One hart in 1 MiB of RAM.
+// Numbers of registers.
+const SSTATUS: u16 = 0x100;
+
+const SIE: u16 = 0x104;
+
+const STVEC: u16 = 0x105;
+
+const SEPC: u16 = 0x141;
+
+const SCAUSE: u16 = 0x142;
+
+const STVAL: u16 = 0x143;
+
+const SIP: u16 = 0x144;
+
+const SATP: u16 = 0x180;
+
+const MSTATUS: u16 = 0x300;
+
+const MEDELEG: u16 = 0x302;
+
+const MIDELEG: u16 = 0x303;
+
+const MIE: u16 = 0x304;
+
+const MTVEC: u16 = 0x305;
+
+const MSCRATCH: u16 = 0x340;
+
+const MEPC: u16 = 0x341;
+
+const MCAUSE: u16 = 0x342;
+
+const MTVAL: u16 = 0x343;
+
+const MIP: u16 = 0x344;
+
+const MCYCLE: u16 = 0xb00;
+
+const MINSTRET: u16 = 0xb02;
+
+const MODES: [Mode; 3] = [Mode::U, Mode::S, Mode::M];
+
+// Four harts in 1 MiB of RAM.
 fn layout() -> Layout
-    ensures { result ≡ record { harts = 1; ram = 1048576 } }
+    ensures { result ≡ record { harts = 4; ram = 1048576 } }
 {
     Layout {
-        harts: 1,
+        harts: 4,
         ram: 1_048_576,
     }
 }
 
-fn hart_at(pc: u64, ends: u64, due: bool) -> Hart {
+fn hart_at(pc: u64, ends: u64, due: bool) -> Hart
+    ensures { AreFit 4 result.csrs }
+{
     Hart {
         regs: Regs {
             pc,
@@ -34,91 +84,65 @@ fn hart_at(pc: u64, ends: u64, due: bool) -> Hart {
             lines: 0,
             due,
         },
+        csrs: Csrs::new(HartId(3)),
     }
 }
 
-fn assert_fit(rt: &impl Abort, hart: &Hart, budget: u64)
-    ensures { (a : State) → StandsFor hart.now a → IsFit 1048576 budget a }
+fn hart_in(mode: Mode, csrs: &[(u16, u64)]) -> Hart
+    ensures { AreFit 4 result.csrs }
 {
-    assert!(rt; hart.regs.pc % 4 == 0);
-    assert!(rt; hart.regs.ends <= budget);
-    assert!(rt; is_reservation(hart.regs.reservation));
+    let mut hart = hart_at(0x8000_0040, 0, false);
+    hart.regs.mode = mode;
+    hart.csrs = written(hart.csrs, csrs);
+    hart
 }
 
-// Whether this is a reservation of 8 aligned bytes of RAM.
-fn is_reservation(reservation: Option<u64>) -> bool
-    ensures { result ≡ true → IsReservation 1048576 reservation }
+// The registers after these writes in M.
+fn written(csrs: Csrs, values: &[(u16, u64)]) -> Csrs
+    ensures { AreFit 4 csrs → AreFit 4 result }
 {
-    match reservation {
-        None => true,
-        Some(address) => address % 8 == 0 && matches!(layout().place(address, 8), Place::Ram),
+    let mut after = csrs;
+    'writes: for (number, value) in values {
+        let _ = after.write(*number, Mode::M, *value);
+    }
+    after
+}
+
+// Stops where the hart's next instruction, with these replies, has another end or leaves another hart.
+fn assert_becomes(rt: &impl Abort, hart: &Hart, replies: &[Reply], part: EndPart, after: &Hart)
+    requires { AreFit 4 hart.now.csrs }
+{
+    let mut made = *hart;
+    let told = play(rt, &mut made, replies);
+    assert_eq!(rt; told, part);
+    assert_eq!(rt; made, *after);
+}
+
+fn word(word: u32) -> Reply {
+    Reply::with_value(word as u64)
+}
+
+fn pulse_reply(lines: u64) -> Reply {
+    Reply {
+        value: 0,
+        lines,
+        stop: false,
     }
 }
 
 // Makes the hart's next instruction, which is this word, with this reply to its access. It gives
 // what the hart needs after the fetch, and the end.
-fn make(rt: &impl Abort, hart: &mut Hart, word: u32, value: u64) -> (Need, EndPart) {
-    let layout = layout();
-    assert_fit(rt, hart, BUDGET);
-    let mut progress = Progress::begin();
-    match need(hart, &progress, &layout, BUDGET) {
-        Need::Ask(Access::Fetch { .. }, Class::Fetch) => {
-            give(
-                hart,
-                &mut progress,
-                &layout,
-                BUDGET,
-                Reply::with_value(word as u64),
-            );
-            let needed = need(hart, &progress, &layout, BUDGET);
-            match needed {
-                Need::Finish(_) => (needed, finish(hart, progress, &layout, BUDGET)),
-                Need::Ask(access, _) => {
-                    assert_form(rt, &access, value);
-                    give(
-                        hart,
-                        &mut progress,
-                        &layout,
-                        BUDGET,
-                        Reply::with_value(value),
-                    );
-                    match need(hart, &progress, &layout, BUDGET) {
-                        Need::Finish(_) => (needed, finish(hart, progress, &layout, BUDGET)),
-                        _ => rt.abort(),
-                    }
-                }
-                _ => rt.abort(),
-            }
-        }
-        _ => rt.abort(),
-    }
-}
-
-// Stops where no access of this kind can be replied with the value.
-fn assert_form(rt: &impl Abort, access: &Access, value: u64)
-    ensures { HasForm access.now (reply_with value) }
+fn make(rt: &impl Abort, hart: &mut Hart, word: u32, value: u64) -> (Need, EndPart)
+    requires { AreFit 4 hart.old.csrs }
+    ensures { AreFit 4 hart.new.csrs }
 {
-    match *access {
-        Access::Read { width, .. } | Access::Lr { width, .. } | Access::Amo { width, .. } => {
-            assert!(rt; fits(width, value))
-        }
-        Access::Write { .. } => assert!(rt; value == 0),
-        Access::Sc { .. } => assert!(rt; value < 2),
-        _ => rt.abort(),
-    }
-}
-
-// Whether so many bytes hold the value.
-fn fits(width: u8, value: u64) -> bool
-    ensures { result ≡ true → value < 2 ^ (8 * width) }
-{
-    match width {
-        1 => value < 0x100,
-        2 => value < 0x1_0000,
-        4 => value < 0x1_0000_0000,
-        8 => true,
-        _ => false,
-    }
+    let needed = need_of(hart, word);
+    let fetched = Reply::with_value(word as u64);
+    let part = match needed {
+        Need::Ask(_, _) => play(rt, hart, &[fetched, Reply::with_value(value)]),
+        _ => play(rt, hart, &[fetched]),
+    };
+    (needed, part)
 }
 
 #[test]
@@ -126,9 +150,9 @@ fn makes_instructions(rt: HostRuntime) {
     let mut hart = Hart::start(HartId(3), 0x8000_0000);
     let mut registers = [0; 32];
     registers[10] = 3;
-    let mut regs = hart_at(0x8000_0000, 0, false).regs;
-    regs.x = registers;
-    assert_eq!(rt; hart, Hart { regs });
+    let mut begun = hart_at(0x8000_0000, 0, false);
+    begun.regs.x = registers;
+    assert_eq!(rt; hart, begun);
     let minus_1 = 0xffff_ffff_ffff_ffff;
     let table = [
         // addi x5, x0, 7
@@ -160,7 +184,7 @@ fn makes_instructions(rt: HostRuntime) {
         // fence
         (0x0ff0000f, Class::Fence, 0x8000_100c, 0, 0),
     ];
-    for (word, class, next, first, second) in table {
+    'made: for (word, class, next, first, second) in table {
         let part = EndPart {
             class,
             pc: hart.regs.pc,
@@ -179,14 +203,17 @@ fn makes_instructions(rt: HostRuntime) {
     registers[8] = 0x8000_0008;
     registers[9] = minus_1;
     registers[10] = 4;
-    let mut regs = hart_at(0x8000_100c, 14, false).regs;
-    regs.x = registers;
-    assert_eq!(rt; hart, Hart { regs });
+    let mut ended = hart_at(0x8000_100c, 14, false);
+    ended.regs.x = registers;
+    ended.csrs = written(ended.csrs, &[(MCYCLE, 14), (MINSTRET, 14)]);
+    assert_eq!(rt; hart, ended);
 }
 
 // `x6` and `x7` are addresses in different lines, `x8` lies in the 8 bytes of `x6`, and `x5` is what
 // is written.
-fn hart_of_atomics() -> Hart {
+fn hart_of_atomics() -> Hart
+    ensures { AreFit 4 result.csrs }
+{
     let mut hart = hart_at(0x8000_0000, 0, false);
     hart.regs.x[5] = 0x0123_4567_89ab_cdef;
     hart.regs.x[6] = 0x8000_0100;
@@ -201,8 +228,11 @@ fn hart_of_atomics() -> Hart {
 
 // Makes each word in turn. A row has the word, the reply to its access, what is needed after the
 // fetch, and what is written to `x10`.
-fn assert_made(rt: &impl Abort, hart: &mut Hart, table: &[(u32, u64, Need, u64)]) {
-    for &(word, value, needed, written) in table {
+fn assert_made(rt: &impl Abort, hart: &mut Hart, table: &[(u32, u64, Need, u64)])
+    requires { AreFit 4 hart.old.csrs }
+    ensures { AreFit 4 hart.new.csrs }
+{
+    'made: for &(word, value, needed, written) in table {
         let (told, part) = make(rt, hart, word, value);
         assert_eq!(rt; told, needed, "{word:x}");
         assert_eq!(rt; (part.first, part.second), (10, written), "{word:x}");
@@ -272,7 +302,7 @@ fn ends_without_a_register(rt: &impl Abort) {
     let mut hart = hart_of_atomics();
     let before = hart.regs.x;
     // sw x5, 0(x6) and amoadd.d x0, x5, (x7)
-    for (word, class) in [(0x00532023, Class::Store), (0x0053b02f, Class::Atomic)] {
+    'made: for (word, class) in [(0x00532023, Class::Store), (0x0053b02f, Class::Atomic)] {
         let (_, part) = make(rt, &mut hart, word, 0);
         let ended = (part.class, part.first, part.second);
         assert_eq!(rt; ended, (class, 0, 0), "{word:x}");

@@ -1,9 +1,14 @@
 // What a hart needs at each place of an instruction.
-use super::{BUDGET, assert_fit, hart_at, layout, read};
+ghost use Rattle.flex_base.specs.Csrs.{AreFit};
+
+use super::playing::{answer, begin};
+use super::{BUDGET, hart_at, layout, read};
 use crate::work::work;
-use crate::{Hart, Need, Progress, give, need};
+use crate::{Hart, Need, Progress, need};
 use flex_base::{Access, Class, Reply};
 use std::process::Abort;
+
+const TRAP: Need = Need::Finish(Class::Trap);
 
 #[test]
 fn needs_what_its_place_in_the_run_says(rt: HostRuntime) {
@@ -11,7 +16,8 @@ fn needs_what_its_place_in_the_run_says(rt: HostRuntime) {
     needs_after_the_pulse(&rt);
     needs_after_the_fetch(&rt);
     needs_of_loads_and_stores(&rt);
-    needs_of_atomics(&rt);
+    stops(&rt, 0);
+    stops(&rt, 0x88);
     for ends in [1, 64, 100] {
         let hart = hart_at(0x8000_0000, ends, ends % 64 == 0);
         let progress = retire(&rt, &hart, ends);
@@ -29,8 +35,8 @@ fn needs_at_the_beginning(rt: &impl Abort) {
     let table = [
         (0x8000_0000, 0, false, fetch(0x8000_0000)),
         (0x800f_fffc, 1, false, fetch(0x800f_fffc)),
-        (0x8010_0000, 1, false, Need::Unbuilt),
-        (0x7fff_fffc, 1, false, Need::Unbuilt),
+        (0x8010_0000, 1, false, TRAP),
+        (0x7fff_fffc, 1, false, TRAP),
         (0x8000_0000, 64, false, fetch(0x8000_0000)),
         (0x8000_0000, 64, true, pulse(true)),
         (0x8010_0000, 64, true, pulse(true)),
@@ -60,10 +66,7 @@ fn fetch(address: u64) -> Need {
 
 // A pulse comes before the fetch, at the same ends.
 fn needs_after_the_pulse(rt: &impl Abort) {
-    for (pc, want) in [
-        (0x8000_0000, fetch(0x8000_0000)),
-        (0x8010_0000, Need::Unbuilt),
-    ] {
+    for (pc, want) in [(0x8000_0000, fetch(0x8000_0000)), (0x8010_0000, TRAP)] {
         let hart = hart_at(pc, 64, true);
         let told = need(&hart, &Progress::Pulsed(0), &layout(), BUDGET);
         assert_eq!(rt; told, want, "at {pc:x}");
@@ -71,7 +74,7 @@ fn needs_after_the_pulse(rt: &impl Abort) {
 }
 
 // What a hart needs that has fetched this word.
-fn need_of(hart: &Hart, word: u32) -> Need {
+pub(super) fn need_of(hart: &Hart, word: u32) -> Need {
     let layout = layout();
     let progress = Progress::Working(0, work(hart, &layout, word));
     need(hart, &progress, &layout, BUDGET)
@@ -84,14 +87,14 @@ fn needs_after_the_fetch(rt: &impl Abort) {
         // jal x0, 0
         (0x0000006f, Need::Finish(Class::Jump)),
         // jal x0, 2
-        (0x0020006f, Need::Unbuilt),
+        (0x0020006f, TRAP),
         // jalr x1, 3(x0), whose lowest bit is cleared
-        (0x003000e7, Need::Unbuilt),
+        (0x003000e7, TRAP),
         // beq x0, x0, 8 and bne x0, x0, 2
         (0x00000463, Need::Finish(Class::Jump)),
         (0x00001163, Need::Finish(Class::Jump)),
         // beq x0, x0, 2
-        (0x00000163, Need::Unbuilt),
+        (0x00000163, TRAP),
         // fence and fence.i
         (0x0ff0000f, Need::Finish(Class::Fence)),
         (0x0000100f, Need::Finish(Class::Fence)),
@@ -101,8 +104,8 @@ fn needs_after_the_fetch(rt: &impl Abort) {
         // mul x5, x6, x7
         (0x027302b3, Need::Finish(Class::Muldiv)),
         // ecall and no instruction
-        (0x00000073, Need::Unbuilt),
-        (0x00000000, Need::Unbuilt),
+        (0x00000073, TRAP),
+        (0x00000000, TRAP),
     ];
     for (word, want) in table {
         assert_eq!(rt;
@@ -119,6 +122,7 @@ fn hart_of_accesses() -> Hart {
     hart.regs.x[5] = 0x0123_4567_89ab_cdef;
     hart.regs.x[6] = 0x8000_0000;
     hart.regs.x[7] = 0x8010_0000;
+    hart.regs.x[8] = 0x0200_0000;
     hart
 }
 
@@ -153,49 +157,51 @@ fn needs_of_loads_and_stores(rt: &impl Abort) {
         (0xff83b283, read(0x800f_fff8, 8)),
         (0xfe53bc23, write(0x800f_fff8, 8, 0x0123_4567_89ab_cdef)),
         // ld x5, 0(x7), and lb x5, -1(x6)
-        (0x0003b283, Need::Unbuilt),
-        (0xfff30283, Need::Unbuilt),
+        (0x0003b283, TRAP),
+        (0xfff30283, TRAP),
         // lh x5, 1(x6), lw x5, 2(x6), ld x5, 4(x6), and sw x5, 0(x0)
-        (0x00131283, Need::Unbuilt),
-        (0x00232283, Need::Unbuilt),
-        (0x00433283, Need::Unbuilt),
-        (0x00502023, Need::Unbuilt),
+        (0x00131283, TRAP),
+        (0x00232283, TRAP),
+        (0x00433283, TRAP),
+        (0x00502023, TRAP),
+        // lw x5, 0(x8) and sw x5, 0(x8), which is a device register
+        (0x00042283, Need::Unbuilt),
+        (0x00542023, Need::Unbuilt),
     ];
     for (word, want) in table {
         assert_eq!(rt; need_of(&hart_of_accesses(), word), want, "{word:x}");
     }
 }
 
-// Atomic instructions at places that aren't theirs: a store-conditional is tested for them first,
-// and looks at its reservation then.
-fn needs_of_atomics(rt: &impl Abort) {
-    let mut hart = hart_of_accesses();
-    hart.regs.x[8] = 0x8000_0004;
-    hart.regs.x[9] = 0x8000_0002;
-    hart.regs.x[15] = 0x7fff_fff8;
-    let table = [
-        // lr.d x10, (x8), lr.w x10, (x9), lr.w x10, (x7) and lr.w x10, (x15)
-        0x1004352f, 0x1004a52f, 0x1003a52f, 0x1007a52f,
-        // sc.d x10, x5, (x8), sc.w x10, x5, (x7), sc.w x10, x5, (x15) and sc.w x10, x5, (x0)
-        0x1854352f, 0x1853a52f, 0x1857a52f, 0x1850252f,
-        // amoswap.d x10, x5, (x8) and amoor.w x10, x5, (x15)
-        0x0854352f, 0x4057a52f,
-    ];
-    for word in table {
-        assert_eq!(rt; need_of(&hart, word), Need::Unbuilt, "{word:x}");
-    }
+// How far the hart has come that has spent its budget and retires.
+fn retire(rt: &impl Abort, hart: &Hart, budget: u64) -> Progress
+    requires { AreFit 4 hart.now.csrs }
+{
+    let layout = layout();
+    let mut progress = begin(rt, hart, &layout, budget);
+    let retirement = Need::Ask(Access::Retire, Class::Pulse);
+    assert_eq!(rt; need(hart, &progress, &layout, budget), retirement);
+    answer(
+        rt,
+        hart,
+        &mut progress,
+        &layout,
+        budget,
+        Reply::with_value(0),
+    );
+    progress
 }
 
-// How far the hart has come that has spent its budget and retires.
-fn retire(rt: &impl Abort, hart: &Hart, budget: u64) -> Progress {
+// A pulse that tells a stop leaves the hart nothing to do, whatever lines it tells.
+fn stops(rt: &impl Abort, lines: u64) {
+    let hart = hart_at(0x8000_0000, 64, true);
     let layout = layout();
-    assert_fit(rt, hart, budget);
-    let mut progress = Progress::begin();
-    match need(hart, &progress, &layout, budget) {
-        Need::Ask(Access::Retire, Class::Pulse) => {
-            give(hart, &mut progress, &layout, budget, Reply::with_value(0));
-            progress
-        }
-        _ => rt.abort(),
-    }
+    let mut progress = begin(rt, &hart, &layout, BUDGET);
+    let reply = Reply {
+        value: 0,
+        lines,
+        stop: true,
+    };
+    answer(rt, &hart, &mut progress, &layout, BUDGET, reply);
+    assert_eq!(rt; need(&hart, &progress, &layout, BUDGET), Need::Over);
 }
