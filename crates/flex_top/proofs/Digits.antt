@@ -45,15 +45,15 @@ last_digit n small = elim (cases_lt n 10) [
             decimal_digit (n + 1) (omega (arith, low, same)) ∙ ap (λ (d : ℕ). d ∷ []) more;
       }
   | inr ten ↦ record {
-      before = decimal (n / 10);
-      digits = decimal_step n ten (omega (arith, small));
-      next = λ low.
-          let same : (n + 1) / 10 ≡ n / 10 = omega (arith, low) in
-          let more : 48 + (n + 1) % 10 ≡ 48 + n % 10 + 1 = omega (arith, low) in
-          decimal_step (n + 1) (omega (arith, ten)) small
-          ∙ ap (λ (m : ℕ). decimal m ++ (48 + (n + 1) % 10) ∷ []) same
-          ∙ ap (λ (d : ℕ). decimal (n / 10) ++ d ∷ []) more;
-    }
+    before = decimal (n / 10);
+    digits = decimal_step n ten (omega (arith, small));
+    next = λ low.
+        let same : (n + 1) / 10 ≡ n / 10 = omega (arith, low) in
+        let more : 48 + (n + 1) % 10 ≡ 48 + n % 10 + 1 = omega (arith, low) in
+        decimal_step (n + 1) (omega (arith, ten)) small
+        ∙ ap (λ (m : ℕ). decimal m ++ (48 + (n + 1) % 10) ∷ []) same
+        ∙ ap (λ (d : ℕ). decimal (n / 10) ++ d ∷ []) more;
+  }
 ]
 
 -- the last of so many digits counts up
