@@ -1,44 +1,65 @@
 use super::*;
-use flex_base::MemoryOuter;
+use crate::text::TailLine;
+use crate::trace_file::write_trace;
+use flex_base::{HartId, MemoryOuter, Settings};
+use journal::HartLog;
+use std::alloc::{AllocError, Global};
 use std::test::Fail;
 
-// 700 lines of 100 bytes, each line of one byte.
-fn add_lines(pieces: &mut Pieces, outer: &mut MemoryOuter) -> Result<(), Failed> {
-    for n in 0..700u32 {
-        let line = [(n % 251) as u8; 100];
-        pieces.put(line.as_slice());
-        pieces.write_full(outer, "out")?;
+// So many lines of 27 bytes each.
+const LINES: u64 = 3_000;
+
+fn lines(alloc: Global) -> Result<Vec<TailLine>, AllocError> {
+    let mut lines = Vec::new(alloc);
+    for value in 0..LINES {
+        lines.push(TailLine::Reg {
+            hart: HartId(0),
+            number: 5,
+            value,
+        })?;
     }
-    pieces.flush(outer, "out")
+    Ok(lines)
+}
+
+fn text(alloc: Global) -> Result<Vec<u8>, AllocError> {
+    let mut text = Vec::from_slice(alloc, b"trace 1 harts 1 ram 1 budget 1\n".as_slice())?;
+    for value in 0..LINES {
+        let line = format!(in alloc; "hart 0 x5 {value:016x}\n")?;
+        text.extend_from_slice(line.as_bytes())?;
+    }
+    Ok(text)
+}
+
+// The lines written as those of a trace, to an outside where a call may fail.
+fn write_lines(alloc: Global, failing: &[u64]) -> Result<(MemoryOuter, bool), AllocError> {
+    let failing = Vec::from_slice(alloc, failing)?;
+    let mut outer = MemoryOuter::new(alloc, Vec::new(alloc), failing);
+    let mut pieces = Pieces::new(alloc)?;
+    let events = HartLog::new(alloc, 0)?;
+    let tail = lines(alloc)?;
+    let settings = Settings {
+        harts: 1,
+        ram: 1 << 20,
+        budget: 1,
+    };
+    let done = write_trace(&mut outer, "out", &mut pieces, &settings, &events, &tail).is_ok();
+    Ok((outer, done))
 }
 
 #[test]
 fn writes_all_lines(rt: HostRuntime) -> Result<(), Fail> {
-    let alloc = rt.alloc();
-    let mut outer = MemoryOuter::new(alloc, Vec::new(alloc), Vec::new(alloc));
-    let mut pieces = Pieces::new(alloc)?;
-    add_lines(&mut pieces, &mut outer)?;
-    let Some(text) = outer.written("out") else {
-        assert!(rt; false, "no file");
-        return Ok(());
-    };
-    assert_eq!(rt; text.len(), 70_000);
-    for (k, byte) in text.iter().enumerate() {
-        assert_eq!(rt; *byte as usize, k / 100 % 251, "at {k}");
-    }
+    let (outer, done) = write_lines(rt.alloc(), [9].as_slice())?;
+    assert!(rt; done);
+    let text = text(rt.alloc())?;
+    assert_eq!(rt; outer.written("out"), Some(text.as_slice()));
     Ok(())
 }
 
 #[test]
 fn keeps_the_first_piece_where_the_second_fails(rt: HostRuntime) -> Result<(), Fail> {
-    let alloc = rt.alloc();
-    let failing = Vec::from_slice(alloc, [1].as_slice())?;
-    let mut outer = MemoryOuter::new(alloc, Vec::new(alloc), failing);
-    let mut pieces = Pieces::new(alloc)?;
-    assert!(rt; add_lines(&mut pieces, &mut outer).is_err());
-    match outer.written("out") {
-        Some(text) => assert_eq!(rt; text.len(), 65_536),
-        None => assert!(rt; false, "no file"),
-    }
+    let (outer, done) = write_lines(rt.alloc(), [2].as_slice())?;
+    assert!(rt; !done);
+    let text = text(rt.alloc())?;
+    assert_eq!(rt; outer.written("out"), text.get(..65_536));
     Ok(())
 }

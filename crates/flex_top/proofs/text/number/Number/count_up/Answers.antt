@@ -8,8 +8,7 @@ overflow_sub-last c = some_digit c.self.inside.count c.self.inside.digits c.self
 pub invariant_of-self : goal.invariant_of-self
 invariant_of-self c =
     let n = c.self.inside in
-    let some = some_digit n.count n.digits n.value (omega (arith, c.self.ranges)) c.self.invariant.1 in
-    (
+    let some = some_digit n.count n.digits n.value (omega (arith, c.self.ranges)) c.self.invariant.1 in (
       c.self.invariant.0,
       counted n.count n.digits n.value (omega (arith, c.requires)) some (omega (arith, c.self.invariant.0, c.self.told)) c.self.invariant.1 c.if-self-last-lt57.true,
     )
