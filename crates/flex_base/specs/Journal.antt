@@ -5,9 +5,15 @@ use Rattle.std.specs.Prelude.{Option, None, Some}
 use Rattle.flex_base.specs.Setup.{Setup}
 use Rattle.flex_base.specs.Unsplit.{Made, does, unsplit}
 use Rattle.flex_base.specs.declared.access.Access.TheVariants as acc
+use Rattle.flex_base.specs.declared.engine.Engine.{Engine}
 use Rattle.flex_base.specs.declared.event.Event.{Event}
 use Rattle.flex_base.specs.declared.event.What.{What}
 use Rattle.flex_base.specs.declared.event.What.TheVariants as what
+
+-- an event, by its number, its hart, its engine and what happened
+abbrev pub event : ℕ → ℕ → Engine → What → Event
+event number hart holder happened =
+    record { number = number; hart = record { 0 = hart }; engine = holder; what = happened }
 
 abbrev pub is_handover : What → Bool
 is_handover (what.Handover to) = true

@@ -1,5 +1,5 @@
 ghost use Rattle.std.specs.Prelude.{◌≡◌, ◌+◌, ◌-◌, ◌≤◌, [], ◌∷◌, ◌++◌, length, IfOk, OnOk};
-ghost use Rattle.flex_base.specs.Split.{event};
+ghost use Rattle.flex_base.specs.Journal.{event};
 ghost use Rattle.journal.specs.Log.{Log};
 ghost use Rattle.journal.specs.Packing.{view_of, what_of};
 ghost use Rattle.journal.specs.Keeping.{IsKept};

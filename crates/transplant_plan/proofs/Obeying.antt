@@ -7,8 +7,8 @@ use Rattle.std.proofs.lemmas.List.FromFn.{get_or-map-range_with_len, length-map-
 use Rattle.flex_base.specs.Classes.{class_of_what}
 use Rattle.flex_base.specs.Setup.{Setup}
 use Rattle.flex_base.specs.Unsplit.{Made, begin, unsplit}
-use Rattle.flex_base.specs.Journal.{is_handover}
-use Rattle.transplant_plan.specs.Split.{Plan, Splitting, event, is_same_engine, with_number, with_handover, holder_of, split_event, first_split, split_run, split, moves_of, ByPlan, Nothing, Stays, Moves, Obeys}
+use Rattle.flex_base.specs.Journal.{event, is_handover}
+use Rattle.transplant_plan.specs.Split.{Plan, Splitting, is_same_engine, with_number, with_handover, holder_of, split_event, first_split, split_run, split, moves_of, ByPlan, Nothing, Stays, Moves, Obeys}
 use Rattle.flex_base.specs.declared.class.Class.{Class}
 use Rattle.flex_base.specs.declared.class.Class.TheVariants as class
 use Rattle.flex_base.specs.declared.engine.Engine.{Engine}

@@ -6,14 +6,14 @@ use Rattle.std.proofs.lemmas.List.Elements.{filter-append}
 use Rattle.flex_base.specs.Classes.{class_of_what}
 use Rattle.flex_base.specs.Setup.{Setup}
 use Rattle.flex_base.specs.Unsplit.{Machine, Made, begin, reach, unsplit, does}
-use Rattle.flex_base.specs.Journal.{is_handover, strip, order_of, numbers_of, IsLegal, sent, console}
+use Rattle.flex_base.specs.Journal.{event, is_handover, strip, order_of, numbers_of, IsLegal, sent, console}
 use Rattle.flex_base.specs.declared.engine.Engine.{Engine}
 use Rattle.flex_base.specs.declared.event.Event.{Event}
 use Rattle.flex_base.specs.declared.event.What.{What}
 use Rattle.flex_base.specs.declared.event.What.TheVariants as what
 use Rattle.flex_base.proofs.Orders.{Plain, More, harts_of, added, range_with_len_push}
 use Rattle.flex_base.proofs.Quiet.{sent_quiet}
-use Rattle.transplant_plan.specs.Split.{Plan, Splitting, split_event, split_run, first_split, split, event, with_number, with_handover, holder_of, is_same_engine}
+use Rattle.transplant_plan.specs.Split.{Plan, Splitting, split_event, split_run, first_split, split, with_number, with_handover, holder_of, is_same_engine}
 
 -- Stripping a split run gives back the events that were split.
 

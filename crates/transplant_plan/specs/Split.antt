@@ -4,7 +4,7 @@ use Rattle.std.specs.Prelude.{◌≡◌, ◌≢◌, ℕ, Bool, true, false, if�
 use Rattle.std.specs.List.{range_with_len}
 use Rattle.flex_base.specs.Classes.{class_of_what}
 use Rattle.flex_base.specs.Unsplit.{Made}
-use Rattle.flex_base.specs.Journal.{is_handover}
+use Rattle.flex_base.specs.Journal.{event, is_handover}
 use Rattle.flex_base.specs.declared.class.Class.{Class}
 use Rattle.flex_base.specs.declared.class.Class.TheVariants as class
 use Rattle.flex_base.specs.declared.engine.Engine.{Engine}
@@ -21,10 +21,6 @@ Plan = ℕ → Class → Engine
 pub record Splitting : Type 0 where
   pub engines : List Engine
   pub events : List Event
-
-abbrev pub event : ℕ → ℕ → Engine → What → Event
-event number hart holder happened =
-    record { number = number; hart = record { 0 = hart }; engine = holder; what = happened }
 
 abbrev pub is_same_engine : Engine → Engine → Bool
 is_same_engine engine.Pipe engine.Pipe = true
