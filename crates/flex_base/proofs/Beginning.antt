@@ -1,5 +1,5 @@
 -- A hart begins in a fit state.
-use Rattle.std.proofs.Common.{ℕ, ◌≡◌, ◌<◌, ◌≤◌, true, [], ◌∷◌, refl, sym, subst, ◌∙◌, arith, slice_index, replicate}
+use Rattle.std.proofs.Common.{ℕ, ◌≡◌, ◌<◌, true, [], ◌∷◌, refl, sym, subst, ◌∙◌, arith, slice_index, replicate}
 use Rattle.std.proofs.lemmas.List.{get_or_append_left, get_or-replicate}
 use Rattle.flex_base.specs.Word.{is_multiple}
 use Rattle.flex_base.specs.Csrs.{AreFit, IsWithin, store_bits, start_csrs}

@@ -1,5 +1,5 @@
 -- A store-conditional is asked only after a load-reserved of the same 8 bytes, whatever the order of the harts.
-use Rattle.std.proofs.Common.{◌≡◌, ◌≢◌, ℕ, ◌+◌, ◌<◌, Bool, true, false, if◌then◌else◌, nat_lt, List, [], ◌∷◌, ◌++◌, ◌==◌, fold, length, Option, None, Some, inl, inr, refl, ap, sym, subst, ◌∙◌, arith, eq-eqb}
+use Rattle.std.proofs.Common.{◌≡◌, ◌≢◌, ℕ, ◌+◌, ◌<◌, Bool, true, false, if◌then◌else◌, nat_lt, List, [], ◌∷◌, ◌==◌, fold, length, Option, None, Some, inl, inr, refl, ap, sym, subst, ◌∙◌, arith, eq-eqb}
 use Rattle.std.proofs.lemmas.Bool.{cases_eq, ne_eqb}
 use Rattle.std.proofs.lemmas.Bool.Decides.{nat_tests}
 use Rattle.std.proofs.lemmas.List.Sums.{fold_push}
@@ -26,7 +26,7 @@ use Rattle.flex_base.specs.declared.operation.Op.{Op}
 use Rattle.flex_base.specs.declared.operation.Op.TheVariants as op
 use Rattle.flex_base.specs.declared.settings.Place.{Place}
 use Rattle.flex_base.specs.declared.settings.Place.TheVariants as place
-use Rattle.flex_base.proofs.Machines.{instruction_at-begin, reach-cons, reach-none, step_is, instruction_after_end, instruction_at-other, story_after_access, length-step, place_in}
+use Rattle.flex_base.proofs.Machines.{instruction_at-begin, reach-cons, reach-none, step_is, instruction_after_end, instruction_at-other, story_after_access, place_in}
 use Rattle.flex_base.proofs.Standing.{AllStand, all_step, all_begin}
 use Rattle.flex_base.proofs.Stories.{retires, goes_on}
 

@@ -11,7 +11,7 @@ use Rattle.flex_base.specs.Place.{in_ram, place_of}
 use Rattle.flex_base.specs.Word.{wrap, is_multiple}
 use Rattle.flex_base.specs.Causes.{instruction_address_misaligned, instruction_access_fault, load_address_misaligned, load_access_fault, store_address_misaligned, store_access_fault}
 use Rattle.flex_base.specs.Decoding.{decoded}
-use Rattle.flex_base.specs.FlatMemory.{Done, flat, reply_with, is_ram_access, is_reserved, reservation_set}
+use Rattle.flex_base.specs.FlatMemory.{Done, flat, is_ram_access, is_reserved, reservation_set}
 use Rattle.flex_base.specs.Story.{Want, Asks, Ends, IsOver, IsLater, Story, Says, Closes, StaysOver, ComesLater, pulses, after_pulse, begins, interrupted_by, fetches, works, jumps, branches, is_taken, ends, computes, traps, traps_illegal, returns, supervises, is_machine, puts_csr, updates_csr, asks_csr, uses_csr, at_place, reaches, reaches_ram, is_tick, want}
 use Rattle.flex_base.specs.Csrs.{TVM, TW, TSR}
 use Rattle.flex_base.specs.Traps.{mret, sret, takeable}

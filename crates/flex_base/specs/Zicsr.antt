@@ -1,5 +1,5 @@
 -- CSR instructions (Volume I, "Zicsr", Extension for Control and Status Register (CSR) Instructions).
-use Rattle.std.specs.Prelude.{ℕ, Bool, true, not, ◌&&◌, ◌||◌, ◌==◌, if◌then◌else◌, List, [], ◌∷◌, is_some, unwrap_or, bit_and, bit_or}
+use Rattle.std.specs.Prelude.{ℕ, Bool, true, not, ◌&&◌, ◌||◌, ◌==◌, List, [], ◌∷◌, is_some, unwrap_or, bit_and, bit_or}
 use Rattle.std.specs.List.{list_any}
 use Rattle.flex_base.specs.Word.{field}
 use Rattle.flex_base.specs.Csrs.{all_but, csr_read, csr_write}

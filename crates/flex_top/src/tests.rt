@@ -369,7 +369,12 @@ fn answers_by_the_image(rt: HostRuntime) -> Result<(), AllocError> {
     ] {
         assert_image(&rt, alloc, image, status)?;
     }
-    let (answer, _) = run(alloc, whole.as_slice(), "solo img out --ram=1 --budget=9", &[])?;
+    let (answer, _) = run(
+        alloc,
+        whole.as_slice(),
+        "solo img out --ram=1 --budget=9",
+        &[],
+    )?;
     assert!(rt; answer == Status::Ended);
     Ok(())
 }
