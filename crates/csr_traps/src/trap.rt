@@ -24,7 +24,8 @@ impl Csrs {
         ensures pc { result.0 ≡ (trap self.old pc mode cause tval).pc }
         ensures mode { result.1 ≡ (trap self.old pc mode cause tval).mode }
         ensures aligned { is_multiple result.0 4 ≡ true }
-        ensures fit { (harts : ℕ) → AreFit harts self.old → is_multiple pc 4 ≡ true → IsCause cause → AreFit harts self.new }
+        ensures fit { (harts : ℕ) → AreFit harts self.old → is_multiple pc 4 ≡ true → IsCause cause
+            → AreFit harts self.new }
         // What a return from this very trap restores.
         ensures law { RestoresM (slice_index self.old mstatus) mode × RestoresS (slice_index self.old mstatus) mode }
     {
