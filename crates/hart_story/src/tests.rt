@@ -88,6 +88,7 @@ fn hart_at(pc: u64, ends: u64, due: bool) -> Hart
     }
 }
 
+// A hart in this mode, after these writes of its CSRs.
 fn hart_in(mode: Mode, csrs: &[(u16, u64)]) -> Hart
     ensures { AreFit 4 result.csrs }
 {
@@ -108,16 +109,32 @@ fn written(csrs: Csrs, values: &[(u16, u64)]) -> Csrs
     after
 }
 
-// Stops where the hart's next instruction, with these replies, has another end or leaves another hart.
-fn assert_becomes(rt: &impl Abort, hart: &Hart, replies: &[Reply], part: EndPart, after: &Hart)
+// Stops where the hart's next instruction, with these replies, has an end that tells something else
+// than this, or leaves another hart.
+fn assert_becomes(
+    rt: &impl Abort,
+    hart: &Hart,
+    replies: &[Reply],
+    told: (Class, u64, u64),
+    after: &Hart,
+)
     requires { AreFit 4 hart.now.csrs }
 {
+    let (class, first, second) = told;
     let mut made = *hart;
-    let told = play(rt, &mut made, replies);
-    assert_eq!(rt; told, part);
+    let part = play(rt, &mut made, replies);
+    let wanted = EndPart {
+        class,
+        pc: hart.regs.pc,
+        next: after.regs.pc,
+        first,
+        second,
+    };
+    assert_eq!(rt; part, wanted);
     assert_eq!(rt; made, *after);
 }
 
+// The reply to the fetch of a word.
 fn word(word: u32) -> Reply {
     Reply::with_value(word as u64)
 }

@@ -9,7 +9,7 @@ use super::{
     assert_becomes, assert_made, hart_at, hart_in, pulse_reply, word, written,
 };
 use crate::{Hart, Need};
-use flex_base::{Access, Class, EndPart, Mode, Reply};
+use flex_base::{Access, Class, Mode};
 use std::process::Abort;
 
 // Operations by their three bits.
@@ -78,15 +78,9 @@ fn operates(rt: &impl Abort, rd: u8) {
             after.regs.x[10] = 0xf0;
             second = 0xf0;
         }
-        let part = EndPart {
-            class: Class::Csr,
-            pc: 0x8000_0040,
-            next: 0x8000_0044,
-            first: rd as u64,
-            second,
-        };
+        let told = (Class::Csr, rd as u64, second);
         let made = csr_word(op, MSCRATCH, rd as u32, rs1);
-        assert_becomes(rt, &hart, &[word(made)], part, &after);
+        assert_becomes(rt, &hart, &[word(made)], told, &after);
     }
 }
 

@@ -7,7 +7,7 @@ use super::{
     STVEC, assert_becomes, hart_in, layout, pulse_reply, word, written,
 };
 use crate::{Hart, Need, Progress, need};
-use flex_base::{Class, EndPart, Mode, Reply};
+use flex_base::{Class, Mode, Reply};
 use std::process::Abort;
 
 // Interrupts by their numbers.
@@ -111,9 +111,8 @@ fn assert_interrupted(rt: &impl Abort, hart: &Hart, replies: &[Reply], number: u
     } else {
         (0x8000_0300, [(MEPC, pc), (MCAUSE, cause), (MTVAL, 0)])
     };
-    let next = base | number << 2;
     let mut after = *hart;
-    after.regs.pc = next;
+    after.regs.pc = base | number << 2;
     after.regs.mode = mode;
     after.regs.ends = 1;
     after.regs.due = false;
@@ -122,14 +121,7 @@ fn assert_interrupted(rt: &impl Abort, hart: &Hart, replies: &[Reply], number: u
     }
     after.csrs = written(after.csrs, &values);
     after.csrs = written(after.csrs, &[(MSTATUS, status), (MCYCLE, 1)]);
-    let part = EndPart {
-        class: Class::Trap,
-        pc,
-        next,
-        first: cause,
-        second: 0,
-    };
-    assert_becomes(rt, hart, replies, part, &after);
+    assert_becomes(rt, hart, replies, (Class::Trap, cause, 0), &after);
 }
 
 // mideleg, mstatus, and a mode in which none of the three is taken.

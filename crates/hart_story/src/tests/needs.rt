@@ -2,7 +2,7 @@
 ghost use Rattle.flex_base.specs.Csrs.{AreFit};
 
 use super::playing::{answer, begin};
-use super::{BUDGET, hart_at, layout, read};
+use super::{BUDGET, hart_at, layout, read, word};
 use crate::work::work;
 use crate::{Hart, Need, Progress, need};
 use flex_base::{Access, Class, Reply};
@@ -194,14 +194,23 @@ fn retire(rt: &impl Abort, hart: &Hart, budget: u64) -> Progress
 
 // A pulse that tells a stop leaves the hart nothing to do, whatever lines it tells.
 fn stops(rt: &impl Abort, lines: u64) {
-    let hart = hart_at(0x8000_0000, 64, true);
     let layout = layout();
+    let hart = hart_at(0x8000_0000, 64, true);
     let mut progress = begin(rt, &hart, &layout, BUDGET);
-    let reply = Reply {
+    answer(rt, &hart, &mut progress, &layout, BUDGET, stop(lines));
+    assert_eq!(rt; need(&hart, &progress, &layout, BUDGET), Need::Over);
+    // So does that of a CSR instruction, here csrr x10, mip.
+    let hart = hart_at(0x8000_0000, 1, false);
+    let mut progress = begin(rt, &hart, &layout, BUDGET);
+    answer(rt, &hart, &mut progress, &layout, BUDGET, word(0x3440_2573));
+    answer(rt, &hart, &mut progress, &layout, BUDGET, stop(lines));
+    assert_eq!(rt; need(&hart, &progress, &layout, BUDGET), Need::Over);
+}
+
+fn stop(lines: u64) -> Reply {
+    Reply {
         value: 0,
         lines,
         stop: true,
-    };
-    answer(rt, &hart, &mut progress, &layout, BUDGET, reply);
-    assert_eq!(rt; need(&hart, &progress, &layout, BUDGET), Need::Over);
+    }
 }

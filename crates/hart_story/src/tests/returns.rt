@@ -3,7 +3,7 @@ use super::needs::need_of;
 use super::traps::{assert_traps, hart_of_traps};
 use super::{MCYCLE, MEPC, MINSTRET, MSTATUS, SATP, SEPC, assert_becomes, hart_in, word, written};
 use crate::Need;
-use flex_base::{Class, EndPart, Mode};
+use flex_base::{Class, Mode};
 use std::process::Abort;
 
 const MRET: u32 = 0x3020_0073;
@@ -74,14 +74,7 @@ fn assert_returns(rt: &impl Abort, from: Mode, made: u32, status: u64, to: (u64,
     after.regs.ends = 1;
     after.regs.due = true;
     after.csrs = written(after.csrs, &[(MSTATUS, left), (MCYCLE, 1), (MINSTRET, 1)]);
-    let part = EndPart {
-        class: Class::System,
-        pc: 0x8000_0040,
-        next,
-        first: 0,
-        second: 0,
-    };
-    assert_becomes(rt, &hart, &[word(made)], part, &after);
+    assert_becomes(rt, &hart, &[word(made)], (Class::System, 0, 0), &after);
 }
 
 fn refuses_by_mode(rt: &impl Abort) {
@@ -125,14 +118,7 @@ fn leaves_what_is_not_built(rt: &impl Abort) {
         after.regs.pc = 0x8000_0044;
         after.regs.ends = 1;
         after.csrs = written(after.csrs, &[(SATP, satp), (MCYCLE, 1), (MINSTRET, 1)]);
-        let part = EndPart {
-            class: Class::Csr,
-            pc: 0x8000_0040,
-            next: 0x8000_0044,
-            first: 0,
-            second: 0,
-        };
-        assert_becomes(rt, &hart, &[word(csrw)], part, &after);
+        assert_becomes(rt, &hart, &[word(csrw)], (Class::Csr, 0, 0), &after);
     }
     let mut hart = hart_in(Mode::S, &[(SATP, 1)]);
     hart.regs.x[5] = 0x8000_0000_0008_0000;

@@ -6,7 +6,7 @@ use super::{
     assert_becomes, hart_at, hart_in, word, written,
 };
 use crate::Hart;
-use flex_base::{Class, EndPart, Mode, Reply};
+use flex_base::{Class, Mode, Reply};
 use std::process::Abort;
 
 // A word, its cause and what stands in mtval.
@@ -112,14 +112,7 @@ pub(super) fn assert_traps(
     after.regs.ends = 1;
     after.csrs = written(after.csrs, &values);
     after.csrs = written(after.csrs, &[(MSTATUS, status), (MCYCLE, 1)]);
-    let part = EndPart {
-        class: Class::Trap,
-        pc,
-        next,
-        first: cause,
-        second: tval,
-    };
-    assert_becomes(rt, hart, replies, part, &after);
+    assert_becomes(rt, hart, replies, (Class::Trap, cause, tval), &after);
 }
 
 // mstatus in the handler, where MIE (8) and SIE (2) were set: MPIE (80) and the mode that was left in
