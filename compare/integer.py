@@ -92,7 +92,8 @@ def mixes_memory():
     words = []
     for offset in range(MEMORY, MEMORY + MEMORY_BYTES, 8):
         # x6 = 33 * x6 + the 8 bytes
-        words += [load_double(5, BASE, offset), addi(7, 0, 33), r_type(1, 7, 6, 0, 6, 0x33), r_type(0, 5, 6, 0, 6, 0x33)]
+        words += [load_double(5, BASE, offset), addi(7, 0, 33)]
+        words += [r_type(1, 7, 6, 0, 6, 0x33), r_type(0, 5, 6, 0, 6, 0x33)]
     return words
 
 

@@ -2,8 +2,9 @@
 
 A program goes between M, S and U by MRET, SRET and traps. Between these it makes CSR instructions, exceptions, and
 instructions on registers and memory. Its handlers mix mcause, mepc, mtval and mstatus (or those of S) and the entry of
-the vector into a register, and step over the instruction; an interrupt's handler clears its bit. Compared at the end
-are the registers, which also have the bytes of memory, and the CSRs that a trace shows.
+the vector into a register, and step over the instruction. Of an interrupt, the handler in M clears the bit in mip, and
+that in S the one in sie. Compared at the end are the registers, into one of which the bytes of memory are mixed, and
+the CSRs that a trace shows.
 
 Left out is where the two rightly differ, or where this QEMU (7.2) isn't as the manual says:
 - misa, the registers of memory protection, and what mcycle, minstret, cycle, time and instret hold; who may read the
@@ -11,7 +12,8 @@ Left out is where the two rightly differ, or where this QEMU (7.2) isn't as the 
 - bits that QEMU keeps and this machine doesn't: writes stay within WRITTEN; MPP never gets 2, satp neither a MODE that
   only QEMU has nor an ASID, mtvec and stvec no reserved mode, and their handlers are the only ones;
 - satp with MODE 8, and legal WFI and SFENCE.VMA, which aren't built yet;
-- misaligned loads and stores, which QEMU does; misaligned and refused SC and AMO, which it refuses with other causes;
+- misaligned loads and stores, which QEMU does; misaligned SC and AMO, and those outside RAM: there QEMU's SC fails, and
+  its AMO traps as a load does;
 - a CSRRS or CSRRC with a register that holds 0, of a read-only number: legal to QEMU;
 - SEI beside SSI or STI: QEMU takes interrupts of one level by their numbers;
 - MPRV while the mode changes, which QEMU doesn't clear; TSR while traps are delegated, since S then can't return;
@@ -23,14 +25,15 @@ import struct
 import subprocess
 
 import integer
-from words import AUIPC, NOTHING, TO_ITSELF, addi, branch_to, bytes_of, constant, i_type, jump, load_double, r_type, s_type, store_double, u_type
+from words import AUIPC, NOTHING, TO_ITSELF, addi, branch_to, bytes_of, constant, i_type, jump, load_double, r_type
+from words import s_type, store_double, u_type
 
 RAM = 0x80000000
 CODE = 0x10000
 MEMORY, MEMORY_BYTES, RESULTS = integer.MEMORY, integer.MEMORY_BYTES, integer.RESULTS
 BASE, PLACE = integer.BASE, integer.PLACE
-# The handlers' own registers, in S and in M; where an instruction that can't be fetched goes on; the mode that a handler
-# in M is asked for, more by 1; and what the handlers mix.
+# The handlers' own registers, in S and in M; where a jump to what can't be fetched goes on; the mode that is asked of
+# the handler in M, more by 1; and what the handlers mix.
 IN_S, RESUME, ASKED, IN_M, DIGEST = (24, 25), 27, 28, (29, 30), 31
 FREE = [r for r in range(1, 24) if r not in (BASE, PLACE)]
 OPERANDS = [0, *FREE]
@@ -59,7 +62,8 @@ MIE_BIT, TVM, TW, TSR, MPRV, MPP = 1 << 3, 1 << 20, 1 << 21, 1 << 22, 1 << 17, 3
 SIE_BIT, SPP = 1 << 1, 1 << 8
 
 ECALL, EBREAK, SRET, MRET, WFI, SFENCE = 0x73, 0x100073, 0x10200073, 0x30200073, 0x10500073, 0x12000073
-ILLEGAL = [0, ALL >> 32, 0x0000000B, 0x1010A12F, 0x7B, 0x00002063, 0x00007003, 0x00004023, 0x00001067, 0x00200073, 0x7FF00073, 0x0000007F]
+# No instruction at all, an LR with a source, branches, loads, stores and jumps of no kind, and system instructions.
+ILLEGAL = [0, ALL >> 32, 0x0B, 0x7B, 0x7F, 0x1010A12F, 0x2063, 0x7003, 0x4023, 0x1067, 0x00200073, 0x7FF00073]
 INTERRUPTS = 12
 QEMU = ["qemu-system-riscv64", "-M", "virt", "-m", "64M", "-display", "none", "-monitor", "none"]
 CPU = "rv64,c=false,f=false,d=false,h=false,sstc=false,marchid=0,mimpid=0,mvendorid=0"
@@ -113,10 +117,14 @@ def escapes(mode, medeleg):
 
 
 class Program:
-    """The words so far, and what is known of the hart after them."""
+    """The words so far, and what is known of the hart after them: its mode, medeleg and mstatus, and how often it may
+    have trapped."""
 
     def __init__(self, chance):
-        self.chance, self.words, self.mode, self.medeleg, self.status, self.traps = chance, [], M, 0, 0, 0
+        self.chance = chance
+        self.words = []
+        self.mode, self.medeleg, self.status, self.traps = M, 0, 0, 0
+        # SSI and STI, or SEI.
         self.pending = chance.choice([0x22, 0x200])
 
     def add(self, *words):
@@ -176,7 +184,8 @@ class Program:
         if self.chance.random() < 0.5:
             self.add(csr(self.chance.choice([RS, RC]) | IMMEDIATE, self.register(), 1, number))
         else:
-            self.add(*constant(SPARE, VECTORS[number] | self.chance.randrange(2)), csr(RW, self.register(), SPARE, number))
+            value = VECTORS[number] | self.chance.randrange(2)
+            self.add(*constant(SPARE, value), csr(RW, self.register(), SPARE, number))
 
     def uses_csr(self):
         """A CSR instruction that is legal, or where satp is guarded maybe isn't."""
@@ -251,8 +260,8 @@ class Program:
     def traps_once(self):
         self.traps += 1
         self.chance.choice([
-            self.refused_csr, self.refused_csr, self.refused_access, self.misaligned_lr, self.misaligned_jump, self.jump_away,
-            self.refused_word, self.refused_word, self.refused_word,
+            self.refused_csr, self.refused_csr, self.refused_word, self.refused_word, self.refused_word,
+            self.refused_access, self.misaligned_lr, self.misaligned_jump, self.jump_away,
         ])()
 
     # Modes
@@ -317,8 +326,8 @@ class Program:
         # All of memory for S and U, by QEMU's memory protection; here these registers are constant.
         self.add(*constant(SPARE, ALL), csr(RW, 0, SPARE, 0x3B0), addi(SPARE, 0, 0x1F), csr(RW, 0, SPARE, 0x3A0))
         self.delegates()
-        kinds = [self.uses_csr] * 20 + [self.traps_once] * 15 + [self.moves] * 10 + [self.raises] * 5 + [self.computes] * 10
-        kinds += [self.guarded_sret, self.as_other_mode]
+        kinds = [self.uses_csr] * 20 + [self.traps_once] * 15 + [self.moves] * 10 + [self.computes] * 10
+        kinds += [self.raises] * 5 + [self.guarded_sret, self.as_other_mode]
         for _ in range(self.chance.randrange(30, 250)):
             self.chance.choice(kinds)()
         self.to(M)
@@ -385,4 +394,5 @@ def differences(program, chance, folder):
     ours, theirs = by_flexemu(program, made, data, folder), by_qemu(made, data, folder)
     if ours is None or theirs is None:
         return [f"no end is reached {'here' if ours is None else 'by QEMU'}"]
-    return [f"{name} is {ours.get(name, 0):016x}, and {theirs[name]:016x} by QEMU" for name in theirs if ours.get(name, 0) != theirs[name]]
+    pairs = [(name, ours.get(name, 0), b) for name, b in theirs.items()]
+    return [f"{name} is {a:016x}, and {b:016x} by QEMU" for name, a, b in pairs if a != b]
