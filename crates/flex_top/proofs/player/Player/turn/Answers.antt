@@ -1,5 +1,5 @@
 -- The turn goes on where the step left it.
-use Rattle.std.proofs.Common.{refl, subst, arith, ◌∙◌}
+use Rattle.std.proofs.Common.{refl, subst, ◌∙◌}
 use Rattle.std.proofs.lemmas.Result.{err_from_is_err_and}
 use Rattle.flex_top.specs.Play.{AfterStep, IsStuck, IsNearer}
 use Rattle.flex_top.specs.declared.player.Step.{Step}

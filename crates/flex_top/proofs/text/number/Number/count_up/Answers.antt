@@ -1,4 +1,4 @@
-use Rattle.std.proofs.Common.{◌≡◌, ℕ, ◌+◌, ◌-◌, ◌≤◌, List, take, set, get_or, decimal, arith}
+use Rattle.std.proofs.Common.{arith}
 use Rattle.flex_top.proofs.Digits.{some_digit, counted}
 use Rattle.flex_top.proofs.text.number.Number.count_up.Goals as goal
 
