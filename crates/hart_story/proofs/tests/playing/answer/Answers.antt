@@ -1,6 +1,5 @@
 -- The reply that the hart is given leads its story on.
 use Rattle.std.proofs.Common.{◌∷◌, [], ◌++◌}
-use Rattle.flex_base.specs.Unsplit.{Instruction}
 use Rattle.hart_story.specs.Progress.{want_in}
 use Rattle.hart_story.proofs.Needing.{needs_ask}
 use Rattle.hart_story.proofs.tests.playing.answer.Goals as goal
