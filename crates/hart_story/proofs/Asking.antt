@@ -1,12 +1,12 @@
 -- What a hart asks, and how far its instruction has then come.
-use Rattle.std.proofs.Common.{◌≡◌, ℕ, Bool, true, false, ◌||◌, ◌==◌, if◌then◌else◌, List, [], ◌∷◌, ◌++◌, Option, None, Some, refl, ap, sym, ◌∙◌}
+use Rattle.std.proofs.Common.{◌≡◌, ℕ, Bool, true, false, ◌||◌, ◌==◌, if◌then◌else◌, [], ◌∷◌, ◌++◌, Option, None, Some, refl, ap, sym, ◌∙◌}
 use Rattle.flex_base.specs.Causes.{instruction_access_fault}
 use Rattle.flex_base.specs.Place.{in_ram}
 use Rattle.flex_base.specs.Setup.{Setup}
 use Rattle.flex_base.specs.State.{State}
 use Rattle.flex_base.specs.Forms.{HasForm}
 use Rattle.flex_base.specs.DevicesSoFar.{is_retire}
-use Rattle.flex_base.specs.Story.{Want, Asks, Ends, Story, Says, story, pulses, after_pulse, begins, interrupted_by, fetches, traps, is_tick, want, after_one}
+use Rattle.flex_base.specs.Story.{Want, Asks, Ends, Story, Says, story, after_pulse, begins, interrupted_by, fetches, traps, is_tick, want, after_one}
 use Rattle.flex_base.specs.Traps.{takeable}
 use Rattle.flex_base.specs.Unsplit.{Instruction}
 use Rattle.flex_base.specs.declared.access.Access.{Access}

@@ -1,5 +1,5 @@
 -- The hart after an end stands for the state after it, which is fit.
-use Rattle.std.proofs.Common.{◌≡◌, ℕ, ◌+◌, ◌<◌, Bool, true, false, ◌||◌, if◌then◌else◌, List, Option, ap, sym, subst, ◌∙◌, refl, arith}
+use Rattle.std.proofs.Common.{◌≡◌, ℕ, ◌+◌, ◌<◌, Bool, true, ◌||◌, List, Option, ap, sym, subst, ◌∙◌, refl, arith}
 use Rattle.flex_base.specs.Setup.{Setup}
 use Rattle.flex_base.specs.Csrs.{AreFit}
 use Rattle.flex_base.specs.Word.{wrap, is_multiple}

@@ -1,5 +1,5 @@
 -- The stores after a CSR instruction's write, and its counters.
-use Rattle.std.proofs.Common.{◌≡◌, ℕ, ◌+◌, List, true, false, not, ◌==◌, refl, ap, sym, subst, ◌∙◌}
+use Rattle.std.proofs.Common.{◌≡◌, ℕ, ◌+◌, List, ap, sym, subst, ◌∙◌}
 use Rattle.flex_base.specs.Csrs.{AreFit, csr_write}
 use Rattle.std.specs.Prelude.{unwrap_or}
 use Rattle.flex_base.specs.State.{State, set_reg}

@@ -1,5 +1,5 @@
 -- The end is what the instruction has come to.
-use Rattle.std.proofs.Common.{◌≡◌, ℕ, List, Option, true, false, refl, ap, sym, subst, ◌∙◌}
+use Rattle.std.proofs.Common.{ℕ, List, Option, true, false, refl, ap, sym, subst, ◌∙◌}
 use Rattle.flex_base.specs.Csrs.{AreFit}
 use Rattle.flex_base.specs.State.{State, IsReservation, set_reg}
 use Rattle.flex_base.specs.Traps.{count}

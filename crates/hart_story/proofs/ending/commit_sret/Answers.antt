@@ -1,5 +1,5 @@
 -- A return leads where the stores of the hart say.
-use Rattle.std.proofs.Common.{◌≡◌, ℕ, List, true, refl, ap, sym, subst, ◌∙◌}
+use Rattle.std.proofs.Common.{ℕ, List, true, refl, ap, sym, subst, ◌∙◌}
 use Rattle.flex_base.specs.Csrs.{AreFit}
 use Rattle.flex_base.specs.State.{State}
 use Rattle.flex_base.specs.Traps.{Transfer, sret, count}

@@ -1,5 +1,5 @@
 -- An instruction that ends where it begins, or after its pulse.
-use Rattle.std.proofs.Common.{ap, sym, subst, ◌∙◌}
+use Rattle.std.proofs.Common.{ap, sym, ◌∙◌}
 use Rattle.flex_base.specs.State.{State}
 use Rattle.flex_base.specs.Story.{Ends, want}
 use Rattle.hart_story.specs.Outcome.{outcome_of}

@@ -1,9 +1,9 @@
 -- The end is what the instruction has come to.
-use Rattle.std.proofs.Common.{◌≡◌, ◌<◌, ap, sym, subst, ◌∙◌, arith}
+use Rattle.std.proofs.Common.{◌<◌, ap, sym, subst, ◌∙◌, arith}
 use Rattle.flex_base.specs.Setup.{Setup}
 use Rattle.flex_base.specs.State.{State}
 use Rattle.flex_base.specs.Reservations.{IsOwn}
-use Rattle.flex_base.specs.Story.{Want, Ends, story, want}
+use Rattle.flex_base.specs.Story.{Want, story, want}
 use Rattle.flex_base.specs.Unsplit.{Instruction}
 use Rattle.flex_base.specs.declared.event.EndPart.{EndPart}
 use Rattle.flex_base.proofs.OwnReservations.{story_reserves, ends_own}

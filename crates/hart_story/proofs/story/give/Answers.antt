@@ -1,12 +1,12 @@
 -- Each reply leads on by one in the story.
-use Rattle.std.proofs.Common.{◌≡◌, ◌≢◌, Bool, true, false, List, ◌||◌, ap, sym, subst, ◌∙◌, arith, refl}
+use Rattle.std.proofs.Common.{◌≡◌, ◌≢◌, true, false, ap, sym, subst, ◌∙◌, arith, refl}
 use Rattle.flex_base.specs.State.{State}
 use Rattle.flex_base.specs.Forms.{HasForm}
-use Rattle.flex_base.specs.Story.{Asks, Says, StaysOver, want, works, after_pulse, after_one, updates_csr, is_tick}
+use Rattle.flex_base.specs.Story.{Asks, StaysOver, want, works, after_pulse, after_one, updates_csr, is_tick}
 use Rattle.flex_base.specs.Decoding.{decoded}
 use Rattle.flex_base.specs.declared.access.Access.{Access}
 use Rattle.flex_base.specs.declared.access.Access.TheVariants as acc
-use Rattle.flex_base.proofs.Stories.{retires, story_spent, story_due, story_undue}
+use Rattle.flex_base.proofs.Stories.{story_spent, story_due, story_undue}
 use Rattle.hart_story.specs.Outcome.{IsSoundAsk, closing}
 use Rattle.hart_story.specs.Progress.{node, IsSoundProgress, is_done}
 use Rattle.hart_story.specs.declared.outcome.Outcome.{Outcome}
