@@ -17,11 +17,11 @@ use Rattle.image_loader.specs.declared.fault.ImageFault.TheVariants as image
 use Rattle.flex_top.specs.Words.{Reading}
 use Rattle.flex_top.specs.Answer.{image_limit, image_in, image_from, setup_of, journal_of, answer_of_run, answer_of, expected, outcome_of}
 use Rattle.flex_top.specs.Play.{IsReached}
-use Rattle.flex_top.specs.Trace.{tail_of, whole_text}
+use Rattle.tracer.specs.Trace.{tail_of, whole_text}
 use Rattle.flex_top.specs.Does.{IsAnswer, Answers, IsCalm, IsEnded, WritesAll, WritesPart, Leaves, LeavesPart, Does}
 use Rattle.flex_top.specs.Written.{Becomes, BecomesPart}
 use Rattle.flex_top.specs.declared.player.Player.{Player}
-use Rattle.flex_top.specs.declared.text.tail_text.TailLine.{TailLine}
+use Rattle.tracer.specs.declared.tail_text.TailLine.{TailLine}
 use Rattle.flex_top.specs.declared.status.Status.{Status}
 use Rattle.flex_top.specs.declared.status.Status.TheVariants as status
 use Rattle.flex_top.proofs.Writing.{trace_is, run_quiet}

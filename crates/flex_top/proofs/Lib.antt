@@ -2,8 +2,6 @@ pub mod Images
 pub mod Doing
 pub mod Told
 pub mod WordsLemmas
-pub mod HexDigits
-pub mod Digits
 pub mod Pages
 pub mod Banks
 pub mod Playing
@@ -11,4 +9,3 @@ pub mod Rounds
 pub mod Writing
 pub mod Starting
 pub mod Growth
-pub mod Tails

@@ -31,7 +31,7 @@ use Rattle.flex_top.specs.Memory.{Serves, ram_after, devices_after}
 use Rattle.flex_top.specs.declared.memory.Memory.{Memory}
 use Rattle.flex_top.specs.Splitting.{splitting_of}
 use Rattle.flex_top.specs.Play.{IsHart, IsAt, progress_at, layout_of}
-use Rattle.flex_top.specs.Trace.{settings_of}
+use Rattle.tracer.specs.Trace.{settings_of}
 use Rattle.flex_top.specs.declared.player.Player.{Player}
 
 -- The split run.

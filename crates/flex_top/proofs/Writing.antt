@@ -16,9 +16,9 @@ use Rattle.flex_base.proofs.EndOfRun.{run_goes_on}
 use Rattle.transplant_plan.proofs.Splits.{console_quiet}
 use Rattle.flex_top.specs.Answer.{journal_of, trace_of, EndsWhole}
 use Rattle.flex_top.specs.Play.{IsReached}
-use Rattle.flex_top.specs.Trace.{settings_of, ram_bytes, tail_of, whole_text, trace_text}
+use Rattle.tracer.specs.Trace.{settings_of, ram_bytes, tail_of, whole_text, trace_text}
 use Rattle.flex_top.specs.declared.player.Player.{Player}
-use Rattle.flex_top.specs.declared.text.tail_text.TailLine.{TailLine}
+use Rattle.tracer.specs.declared.tail_text.TailLine.{TailLine}
 
 pub split_none : (plan : Plan) (harts : ℕ) → split_run plan harts [] ≡ first_split plan harts
 unfolding split_run

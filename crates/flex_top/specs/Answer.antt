@@ -14,7 +14,7 @@ use Rattle.flex_base.specs.declared.settings.Settings.{Settings}
 use Rattle.image_loader.specs.Loading.{loaded}
 use Rattle.image_loader.specs.declared.fault.ImageFault.{ImageFault}
 use Rattle.image_loader.specs.declared.fault.ImageFault.TheVariants as fault
-use Rattle.flex_top.specs.Trace.{trace_text}
+use Rattle.tracer.specs.Trace.{trace_text}
 use Rattle.flex_top.specs.Words.{Reading}
 use Rattle.flex_top.specs.declared.status.Status.{Status}
 use Rattle.flex_top.specs.declared.status.Status.TheVariants as status

@@ -1,8 +1,4 @@
 pub mod Words
-pub mod EventText
-pub mod TailText
-pub mod Tail
-pub mod Trace
 pub mod Written
 pub mod Memory
 pub mod Splitting

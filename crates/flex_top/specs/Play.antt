@@ -18,7 +18,7 @@ use Rattle.hart_story.specs.declared.progress.Progress.TheVariants as progress
 use Rattle.mem_lines.specs.Bank.{Bank}
 use Rattle.flex_top.specs.Memory.{Serves}
 use Rattle.flex_top.specs.Splitting.{splitting_of}
-use Rattle.flex_top.specs.Trace.{settings_of}
+use Rattle.tracer.specs.Trace.{settings_of}
 use Rattle.flex_top.specs.declared.player.Player.{Player}
 use Rattle.flex_top.specs.declared.player.Step.{Step}
 use Rattle.flex_top.specs.declared.player.Step.TheVariants as step_of

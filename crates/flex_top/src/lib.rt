@@ -12,7 +12,6 @@ mod prepared;
 mod solo;
 mod split_run;
 mod status;
-mod text;
 mod top;
 mod trace_file;
 mod words;

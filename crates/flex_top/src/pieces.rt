@@ -1,6 +1,6 @@
 ghost use Rattle.std.specs.Prelude.{◌≡◌, length, IfOk};
 
-use crate::text::Put;
+use tracer::Put;
 use flex_base::{Failed, Outer};
 use std::alloc::{AllocError, Global};
 use std::marker::Model;

@@ -8,7 +8,7 @@ ghost use Rattle.flex_top.specs.declared.player.Stuck.TheVariants as stuck;
 
 use crate::memory::Memory;
 use crate::split_run::SplitRun;
-use crate::text::Tail;
+use tracer::Tail;
 use flex_base::{HartId, Layout, Settings, Stop};
 use hart_story::{Hart, Need, Progress, finish, give, need};
 use mem_lines::Lines;
@@ -58,7 +58,7 @@ impl Player {
     ghost use Rattle.flex_base.specs.Rounds.{turn_of, names_played};
     ghost use Rattle.flex_base.specs.Built.{unbuilt_at, first_unbuilt};
     ghost use Rattle.std.specs.Prelude.{Some};
-    ghost use Rattle.flex_top.specs.Trace.{tail_of};
+    ghost use Rattle.tracer.specs.Trace.{tail_of};
     ghost use Rattle.flex_top.specs.Play.{Comes, IsAt, IsStarted, AfterStep, IsStepped, IsStuck, IsTurned, IsNearer, Playing, IsReached};
 
     // The harts at their start, at this entry, over this RAM.

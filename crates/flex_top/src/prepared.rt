@@ -9,7 +9,7 @@ ghost use Rattle.flex_top.specs.Words.{hart_of};
 
 use crate::pieces::Pieces;
 use crate::player::Player;
-use crate::text::Tail;
+use tracer::Tail;
 use crate::words::harts_named;
 use flex_base::{Image, Settings};
 use mem_lines::Lines;

@@ -1,13 +1,13 @@
 ghost use Rattle.std.specs.Prelude.{◌≡◌, ◌<◌, ℕ, List, OnOk, OnErr, IsErr, length};
 ghost use Rattle.std.specs.List.{flat_map};
 ghost use Rattle.flex_base.specs.Outside.{OnlyWrites, Writes};
-ghost use Rattle.flex_top.specs.EventText.{event_text};
-ghost use Rattle.flex_top.specs.TailText.{tail_line_text};
-ghost use Rattle.flex_top.specs.Trace.{whole_text};
+ghost use Rattle.tracer.specs.EventText.{event_text};
+ghost use Rattle.tracer.specs.TailText.{tail_line_text};
+ghost use Rattle.tracer.specs.Trace.{whole_text};
 ghost use Rattle.flex_top.specs.Written.{Passes, PassesPart, Becomes, BecomesPart};
 
 use crate::pieces::Pieces;
-use crate::text::{Number, TailLine, put_header, put_kept, put_tail_line};
+use tracer::{Number, TailLine, put_header, put_kept, put_tail_line};
 use flex_base::{Failed, Outer, Settings};
 use journal::HartLog;
 

@@ -1,5 +1,5 @@
 use super::*;
-use crate::text::TailLine;
+use tracer::TailLine;
 use crate::trace_file::write_trace;
 use flex_base::{HartId, MemoryOuter, Settings};
 use journal::HartLog;

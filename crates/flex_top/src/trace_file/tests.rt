@@ -1,5 +1,5 @@
 use super::*;
-use crate::text::Tail;
+use tracer::Tail;
 use flex_base::{Engine, Event, HartId, MemoryOuter, Stop, What};
 use hart_story::Hart;
 use std::alloc::{AllocError, Global};

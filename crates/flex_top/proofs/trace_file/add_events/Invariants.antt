@@ -1,7 +1,7 @@
 use Rattle.std.proofs.Common.{◌≡◌, ◌++◌, length, ◌<◌}
 use Rattle.std.specs.List.{flat_map}
 use Rattle.flex_base.specs.Outside.{OnlyWrites}
-use Rattle.flex_top.specs.EventText.{event_text}
+use Rattle.tracer.specs.EventText.{event_text}
 use Rattle.flex_top.specs.Written.{Passes}
 use Rattle.flex_top.proofs.trace_file.add_events.Given as goal
 

@@ -1,5 +1,5 @@
 use Rattle.std.proofs.Common.{refl, rules}
-use Rattle.flex_top.specs.TailText.{tail_line_text}
+use Rattle.tracer.specs.TailText.{tail_line_text}
 use Rattle.flex_top.proofs.Growth.{on_err, passes_none, passes_put, part_put, passes_more, part_within}
 use Rattle.flex_top.proofs.trace_file.add_tail.Goals as goal
 

@@ -1,7 +1,7 @@
 use Rattle.std.proofs.Common.{take, length, ◌<◌}
 use Rattle.std.specs.List.{flat_map}
 use Rattle.flex_base.specs.Outside.{OnlyWrites}
-use Rattle.flex_top.specs.TailText.{tail_line_text}
+use Rattle.tracer.specs.TailText.{tail_line_text}
 use Rattle.flex_top.specs.Written.{Passes}
 use Rattle.flex_top.proofs.trace_file.add_tail.Given as goal
 

@@ -1,7 +1,7 @@
 use Rattle.std.proofs.Common.{◌++◌, List, ℕ, [], ap, ◌∙◌}
 use Rattle.std.proofs.lemmas.List.{append-nil}
-use Rattle.flex_top.specs.EventText.{header_text}
-use Rattle.flex_top.specs.Trace.{whole_text}
+use Rattle.tracer.specs.EventText.{header_text}
+use Rattle.tracer.specs.Trace.{whole_text}
 use Rattle.flex_top.proofs.Growth.{on_err, becomes, becomes_part, passes_none, passes_put, passes_on, part_on, part_more}
 use Rattle.flex_top.proofs.trace_file.write_trace.Goals as goal
 

@@ -5,7 +5,7 @@ use Rattle.flex_base.specs.Unsplit.{instruction_at}
 use Rattle.flex_base.specs.DevicesSoFar.{stop_of}
 use Rattle.flex_base.specs.declared.event.Stop.{Stop}
 use Rattle.hart_story.specs.declared.hart.Hart.{Hart}
-use Rattle.flex_top.specs.Tail.{AllStand, tail_lines}
+use Rattle.tracer.specs.Tail.{AllStand, tail_lines}
 use Rattle.flex_top.proofs.Writing.{ram_is}
 use Rattle.flex_top.proofs.player.Player.fill_tail.Goals as goal
 

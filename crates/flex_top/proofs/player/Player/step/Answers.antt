@@ -21,7 +21,7 @@ use Rattle.hart_story.proofs.Asking.{ends_not_done}
 use Rattle.hart_story.proofs.Needing.{needs_ask, needs_finish, needs_later}
 use Rattle.flex_top.specs.Memory.{Serves, ram_after, devices_after}
 use Rattle.flex_top.specs.Play.{IsAt, progress_at, layout_of}
-use Rattle.flex_top.specs.Trace.{settings_of}
+use Rattle.tracer.specs.Trace.{settings_of}
 use Rattle.flex_top.specs.Splitting.{splitting_of}
 use Rattle.flex_top.proofs.Playing.{tells_no_stop, or_false, hart_read, in_hart, in_setup, at_access, at_end}
 use Rattle.flex_top.proofs.player.Player.step.Goals as goal

@@ -1,0 +1,3 @@
+pub mod HexDigits
+pub mod Digits
+pub mod Tails

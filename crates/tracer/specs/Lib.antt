@@ -1,0 +1,4 @@
+pub mod EventText
+pub mod TailText
+pub mod Tail
+pub mod Trace
