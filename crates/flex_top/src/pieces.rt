@@ -1,9 +1,9 @@
 ghost use Rattle.std.specs.Prelude.{◌≡◌, length, IfOk};
 
-use tracer::Put;
 use flex_base::{Failed, Outer};
 use std::alloc::{AllocError, Global};
 use std::marker::Model;
+use tracer::Put;
 
 // How many bytes a piece has, but for the last one.
 const PIECE: usize = 65_536;

@@ -8,11 +8,11 @@ ghost use Rattle.flex_top.specs.declared.player.Stuck.TheVariants as stuck;
 
 use crate::memory::Memory;
 use crate::split_run::SplitRun;
-use tracer::Tail;
 use flex_base::{HartId, Layout, Settings, Stop};
 use hart_story::{Hart, Need, Progress, finish, give, need};
 use mem_lines::Lines;
 use std::alloc::{AllocError, Global};
+use tracer::Tail;
 
 /// All harts of a run, what they reach, and the split run so far.
 #[derive(Drop)]

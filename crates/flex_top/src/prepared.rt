@@ -9,11 +9,11 @@ ghost use Rattle.flex_top.specs.Words.{hart_of};
 
 use crate::pieces::Pieces;
 use crate::player::Player;
-use tracer::Tail;
 use crate::words::harts_named;
 use flex_base::{Image, Settings};
 use mem_lines::Lines;
 use std::alloc::{AllocError, Global};
+use tracer::Tail;
 
 /// A run that is ready, with all memory that it needs but for its events: the harts at their start
 /// over RAM, the order as hart numbers, and the room for the trace.

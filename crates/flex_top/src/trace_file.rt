@@ -7,9 +7,9 @@ ghost use Rattle.tracer.specs.Trace.{whole_text};
 ghost use Rattle.flex_top.specs.Written.{Passes, PassesPart, Becomes, BecomesPart};
 
 use crate::pieces::Pieces;
-use tracer::{Number, TailLine, put_header, put_kept, put_tail_line};
 use flex_base::{Failed, Outer, Settings};
 use journal::HartLog;
+use tracer::{Number, TailLine, put_header, put_kept, put_tail_line};
 
 /// Makes the file of this name the text of a trace, written in pieces. It takes no memory.
 ///

@@ -1,10 +1,10 @@
 use super::*;
-use tracer::TailLine;
 use crate::trace_file::write_trace;
 use flex_base::{HartId, MemoryOuter, Settings};
 use journal::HartLog;
 use std::alloc::{AllocError, Global};
 use std::test::Fail;
+use tracer::TailLine;
 
 // So many lines of 27 bytes each.
 const LINES: u64 = 3_000;

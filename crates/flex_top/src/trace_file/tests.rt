@@ -1,9 +1,9 @@
 use super::*;
-use tracer::Tail;
 use flex_base::{Engine, Event, HartId, MemoryOuter, Stop, What};
 use hart_story::Hart;
 use std::alloc::{AllocError, Global};
 use std::test::Fail;
+use tracer::Tail;
 
 const TEXT: &str = "trace 1 harts 2 ram 1 budget 3
 0 1 p to k
