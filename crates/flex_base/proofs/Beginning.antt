@@ -21,4 +21,4 @@ start_fit hart harts less = record {
 
 pub begins_fit : (harts ram budget hart entry : ℕ) → hart < harts → is_multiple entry 4 ≡ true → IsFit harts ram budget (start hart entry)
 begins_fit harts ram budget hart entry less aligned =
-    record { aligned = aligned; within = omega arith; reserved = tt; csrs = start_fit hart harts less }
+    record { aligned = aligned; within = omega arith; reserved = tt; csrs = start_fit hart harts less; leaves = tt }

@@ -1,16 +1,18 @@
 -- The work of an operation ends with the class of the operation, or is a trap.
-use Rattle.std.proofs.Common.{ℕ, ◌+◌, Bool, true, false, if◌then◌else◌, ◌==◌, inl, inr, refl}
+use Rattle.std.proofs.Common.{ℕ, ◌+◌, Bool, true, false, if◌then◌else◌, List, ◌==◌, inl, inr, refl}
 use Rattle.flex_base.specs.Setup.{Setup}
 use Rattle.flex_base.specs.State.{State, reg}
 use Rattle.flex_base.specs.Place.{in_ram, place_of}
 use Rattle.flex_base.specs.Word.{wrap, is_multiple}
-use Rattle.flex_base.specs.Causes.{load_address_misaligned, load_access_fault, store_address_misaligned, store_access_fault}
+use Rattle.flex_base.specs.Causes.{load_access_fault, store_access_fault, access_fault}
 use Rattle.flex_base.specs.Classes.{class_of_op}
 use Rattle.flex_base.specs.Csrs.{TVM, TW, TSR}
 use Rattle.flex_base.specs.EndClass.{EndsIn}
 use Rattle.flex_base.specs.FlatMemory.{is_reserved, reservation_set}
-use Rattle.flex_base.specs.Story.{Story, works, jumps, branches, is_taken, traps, at_place, reaches, reaches_ram, is_machine, supervises, puts_csr, updates_csr, after_csr_pulse, asks_csr, uses_csr}
-use Rattle.flex_base.specs.Zicsr.{CSR_TIME, reads_csr, writes_csr, may_use_csr, is_pending_csr, turns_translation_on}
+use Rattle.flex_base.specs.StoryTree.{Story}
+use Rattle.flex_base.specs.Ends.{jumps, traps}
+use Rattle.flex_base.specs.Story.{works, branches, is_taken, at_place, reaches, in_ram_at, loads_at, stores_at, loads_reserved_at, stores_conditional_at, modifies_at, is_machine, supervises, updates_csr, after_csr_pulse, asks_csr, uses_csr}
+use Rattle.flex_base.specs.Zicsr.{CSR_TIME, reads_csr, writes_csr, may_use_csr, is_pending_csr}
 use Rattle.flex_base.specs.declared.access.Reply.{Reply}
 use Rattle.flex_base.specs.declared.class.Class.{Class}
 use Rattle.flex_base.specs.declared.class.Class.TheVariants as class
@@ -19,6 +21,10 @@ use Rattle.flex_base.specs.declared.operation.Op.{Op}
 use Rattle.flex_base.specs.declared.operation.Op.TheVariants as op
 use Rattle.flex_base.specs.declared.settings.Place.{Place}
 use Rattle.flex_base.specs.declared.settings.Place.TheVariants as place
+use Rattle.flex_base.specs.declared.translation.Kind.{Kind}
+use Rattle.flex_base.specs.declared.translation.Kind.TheVariants as kind
+use Rattle.flex_base.specs.declared.translation.Leaf.{Leaf}
+use Rattle.flex_base.proofs.Translating.{PassesWalks, translates_has}
 
 either_ends : (c : Class) (b : Bool) (s t : Story) → EndsIn c s → EndsIn c t → EndsIn c (if b then s else t)
 either_ends c true s t first second = first
@@ -29,17 +35,24 @@ at_place_ends c place.Ram access fault first second = first
 at_place_ends c place.Device access fault first second = tt
 at_place_ends c place.Nowhere access fault first second = second
 
-reaches_ends : (c : Class) (setup : Setup) (a : State) (address width misaligned fault : ℕ) (access : Story) → EndsIn c access →
-    EndsIn c (reaches setup a address width misaligned fault access)
-reaches_ends c setup a address width misaligned fault access leads =
-    either_ends c (is_multiple address width) _ _
-    (at_place_ends c (place_of setup.harts setup.ram address width) access (traps a fault address) leads (inr refl)) (inr refl)
+ends_passes : (c : Class) (a : State) (va : ℕ) → PassesWalks a va (λ n s. EndsIn c s)
+ends_passes c a va = record { more = λ n s leads. leads; reads = λ n address onward leads. leads; faults = λ n cause. inr refl }
 
-reaches_ram_ends : (c : Class) (setup : Setup) (a : State) (address width misaligned fault : ℕ) (access : Story) → EndsIn c access →
-    EndsIn c (reaches_ram setup a address width misaligned fault access)
-reaches_ram_ends c setup a address width misaligned fault access leads =
-    either_ends c (is_multiple address width) _ _
-    (either_ends c (in_ram setup.ram address width) access (traps a fault address) leads (inr refl)) (inr refl)
+reaches_ends : (c : Class) (setup : Setup) (a : State) (k : Kind) (width va : ℕ) (access : State → ℕ → Story)
+    → ((leaves : List Leaf) (address : ℕ) → EndsIn c (access (record a { leaves = leaves }) address))
+    → EndsIn c (reaches setup a k width va access)
+reaches_ends c setup a k width va access leads =
+    either_ends c (is_multiple va width) _ _
+    (translates_has setup.ram a k va access (λ n s. EndsIn c s) (ends_passes c a va) 0 leads) (inr refl)
+
+in_ram_ends : (c : Class) (setup : Setup) (a : State) (k : Kind) (width va address : ℕ) (access : Story) → EndsIn c access
+    → EndsIn c (in_ram_at setup a k width va address access)
+in_ram_ends c setup a k width va address access leads =
+    either_ends c (in_ram setup.ram address width) access (traps a (access_fault k) va) leads (inr refl)
+
+placed_ends : (c : Class) (p : Place) (a : State) (cause va : ℕ) (access : Story) → EndsIn c access
+    → EndsIn c (at_place p access (traps a cause va))
+placed_ends c p a cause va access leads = at_place_ends c p access (traps a cause va) leads (inr refl)
 
 jumps_ends : (a : State) (target rd : ℕ) → EndsIn class.Jump (jumps a target rd)
 jumps_ends a target rd = either_ends class.Jump (is_multiple target 4) _ _ (inl refl) (inr refl)
@@ -49,12 +62,9 @@ branches_ends a taken target = either_ends class.Jump taken _ _ (jumps_ends a ta
 
 -- CSR instructions.
 
-puts_csr_ends : (a : State) (number rd old value : ℕ) → EndsIn class.Csr (puts_csr a number rd old value)
-puts_csr_ends a number rd old value = either_ends class.Csr (turns_translation_on number value) _ _ tt (inl refl)
-
 updates_csr_ends : (a : State) (does : CsrOp) (rd rs1 number old : ℕ) → EndsIn class.Csr (updates_csr a does rd rs1 number old)
 updates_csr_ends a does rd rs1 number old =
-    either_ends class.Csr (writes_csr does rs1) _ _ (puts_csr_ends a number rd old _) (inl refl)
+    either_ends class.Csr (writes_csr does rs1) _ _ (inl refl) (inl refl)
 
 after_csr_pulse_ends : (a : State) (does : CsrOp) (rd rs1 number : ℕ) (reply : Reply) →
     EndsIn class.Csr (after_csr_pulse a does rd rs1 number reply)
@@ -84,16 +94,26 @@ works_ends setup a word (op.Jalr rd rs1 imm) = jumps_ends a _ rd
 works_ends setup a word (op.Branch compares rs1 rs2 imm) =
     branches_ends a (is_taken compares (reg a.x rs1) (reg a.x rs2)) (wrap (a.pc + imm))
 works_ends setup a word (op.Load width signed rd rs1 imm) =
-    reaches_ends class.Load setup a _ width load_address_misaligned load_access_fault _ (λ reply. inl refl)
+    let va = wrap (reg a.x rs1 + imm) in
+    reaches_ends class.Load setup a kind.Load width va (loads_at setup width signed rd va) (λ leaves address.
+    placed_ends class.Load (place_of setup.harts setup.ram address width) (record a { leaves = leaves }) load_access_fault va _ (λ reply. inl refl))
 works_ends setup a word (op.Store width rs1 rs2 imm) =
-    reaches_ends class.Store setup a _ width store_address_misaligned store_access_fault _ (λ reply. inl refl)
+    let va = wrap (reg a.x rs1 + imm) in
+    reaches_ends class.Store setup a kind.Store width va (stores_at setup width (reg a.x rs2) va) (λ leaves address.
+    placed_ends class.Store (place_of setup.harts setup.ram address width) (record a { leaves = leaves }) store_access_fault va _ (λ reply. inl refl))
 works_ends setup a word (op.Lr width rd rs1 aq rl) =
-    reaches_ram_ends class.Atomic setup a _ width load_address_misaligned load_access_fault _ (λ reply. inl refl)
+    let va = reg a.x rs1 in
+    reaches_ends class.Atomic setup a kind.Load width va (loads_reserved_at setup width rd va) (λ leaves address.
+    in_ram_ends class.Atomic setup (record a { leaves = leaves }) kind.Load width va address _ (λ reply. inl refl))
 works_ends setup a word (op.Sc width rd rs1 rs2 aq rl) =
-    reaches_ram_ends class.Atomic setup a _ width store_address_misaligned store_access_fault _
-    (either_ends class.Atomic (is_reserved a.reservation (reservation_set (reg a.x rs1))) _ _ (λ reply. inl refl) (inl refl))
+    let va = reg a.x rs1 in
+    reaches_ends class.Atomic setup a kind.Store width va (stores_conditional_at setup width rd (reg a.x rs2) va) (λ leaves address.
+    in_ram_ends class.Atomic setup (record a { leaves = leaves }) kind.Store width va address _
+    (either_ends class.Atomic (is_reserved a.reservation (reservation_set address)) _ _ (λ reply. inl refl) (inl refl)))
 works_ends setup a word (op.Amo does width rd rs1 rs2 aq rl) =
-    reaches_ram_ends class.Atomic setup a _ width store_address_misaligned store_access_fault _ (λ reply. inl refl)
+    let va = reg a.x rs1 in
+    reaches_ends class.Atomic setup a kind.Store width va (modifies_at setup does width rd (reg a.x rs2) va) (λ leaves address.
+    in_ram_ends class.Atomic setup (record a { leaves = leaves }) kind.Store width va address _ (λ reply. inl refl))
 works_ends setup a word (op.Fence free) = inl refl
 works_ends setup a word (op.FenceI free) = inl refl
 works_ends setup a word (op.Csr does rd rs1 number) = uses_csr_ends a word does rd rs1 number
@@ -102,5 +122,5 @@ works_ends setup a word op.Ebreak = inr refl
 works_ends setup a word op.Mret = either_ends class.System (is_machine a.mode) _ _ (inl refl) (inr refl)
 works_ends setup a word op.Sret = either_ends class.System (supervises TSR a.csrs a.mode) _ _ (inl refl) (inr refl)
 works_ends setup a word op.Wfi = either_ends class.System (supervises TW a.csrs a.mode) _ _ tt (inr refl)
-works_ends setup a word (op.SfenceVma rs1 rs2) = either_ends class.System (supervises TVM a.csrs a.mode) _ _ tt (inr refl)
+works_ends setup a word (op.SfenceVma rs1 rs2) = either_ends class.System (supervises TVM a.csrs a.mode) _ _ (inl refl) (inr refl)
 works_ends setup a word (op.Illegal whole) = inr refl

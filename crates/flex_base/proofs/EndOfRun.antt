@@ -6,7 +6,7 @@ use Rattle.std.proofs.lemmas.Bool.{cases_eq, cases_Bool, and_cases}
 use Rattle.std.proofs.lemmas.Bool.Decides.{nat_tests}
 use Rattle.flex_base.specs.Setup.{Setup}
 use Rattle.flex_base.specs.State.{State}
-use Rattle.flex_base.specs.Story.{IsOver, Story, Says, Closes, StaysOver, ComesLater, want}
+use Rattle.flex_base.specs.StoryTree.{IsOver, Story, Says, Closes, StaysOver, ComesLater, want}
 use Rattle.flex_base.specs.Unsplit.{Machine, Instruction, instruction_at, story_of, want_of, reply_to, begin, step, reach, reach_from, hart_numbers, is_over, has_ended}
 use Rattle.flex_base.specs.DevicesSoFar.{is_spent}
 use Rattle.flex_base.specs.Rounds.{turn, turn_of, turns, repeated, most_events, most_rounds, rounds, names_played}
@@ -16,7 +16,8 @@ use Rattle.flex_base.specs.declared.event.EndPart.{EndPart}
 use Rattle.flex_base.proofs.Machines.{reach-cons, reach-append, reach-none, step_over, step_beyond, instruction_after_access, story_after_access, instruction_after_end, instruction_at-other, length-step, place_in}
 use Rattle.flex_base.proofs.Turns.{story_over, ended_all, some_number, over_by, over_ended, turns-cons, turns-append, first_none, first_unbuilt-append, unbuilt_here}
 use Rattle.flex_base.proofs.OwnReservations.{all_asks_reserved}
-use Rattle.flex_base.proofs.Standing.{Leads, Stands, Works, Retires, Retired, AllStand, steps_on, all_from, all_stand}
+use Rattle.flex_base.proofs.Leading.{Leads}
+use Rattle.flex_base.proofs.Standing.{Stands, Works, Retires, Retired, AllStand, steps_on, all_from, all_stand}
 
 -- Where all harts are over, all have retired.
 

@@ -4,6 +4,9 @@ pub mod Stories
 pub mod Machines
 pub mod Orders
 pub mod Turns
+pub mod Translating
+pub mod Walked
+pub mod Leading
 pub mod Standing
 pub mod Quiet
 pub mod OwnReservations

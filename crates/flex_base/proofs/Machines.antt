@@ -5,7 +5,8 @@ use Rattle.std.proofs.lemmas.List.FromFn.{get_or-map-range_with_len}
 use Rattle.std.proofs.lemmas.List.Sums.{fold_push, fold-append}
 use Rattle.flex_base.specs.Setup.{Setup}
 use Rattle.flex_base.specs.State.{State, start}
-use Rattle.flex_base.specs.Story.{Want, Asks, Ends, IsOver, IsLater, Story, Says, goes, want, story, after_one}
+use Rattle.flex_base.specs.StoryTree.{Want, Asks, Ends, IsOver, IsLater, Story, Says, goes, want, after_one}
+use Rattle.flex_base.specs.Story.{story}
 use Rattle.flex_base.specs.Unsplit.{Machine, Instruction, instruction_from, does, begin, instruction_at, story_of, want_of, reply_to, instruction_after, make, step, reach_from}
 use Rattle.flex_base.specs.declared.access.Access.{Access}
 use Rattle.flex_base.specs.declared.access.Reply.{Reply}

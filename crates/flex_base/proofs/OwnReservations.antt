@@ -3,17 +3,20 @@ use Rattle.std.proofs.Common.{◌≡◌, ◌≢◌, ℕ, ◌+◌, ◌<◌, Bool,
 use Rattle.std.proofs.lemmas.Bool.{cases_eq, ne_eqb}
 use Rattle.std.proofs.lemmas.Bool.Decides.{nat_tests}
 use Rattle.std.proofs.lemmas.List.Sums.{fold_push}
-use Rattle.flex_base.specs.Causes.{instruction_address_misaligned, instruction_access_fault, load_address_misaligned, load_access_fault, store_address_misaligned, store_access_fault}
+use Rattle.flex_base.specs.Causes.{instruction_address_misaligned, instruction_access_fault, load_access_fault, store_access_fault, misaligned, access_fault}
 use Rattle.flex_base.specs.Setup.{Setup}
 use Rattle.flex_base.specs.State.{State, reg, start}
 use Rattle.flex_base.specs.Place.{in_ram, place_of}
 use Rattle.flex_base.specs.Word.{wrap, is_multiple}
 use Rattle.flex_base.specs.Decoding.{decoded}
 use Rattle.flex_base.specs.FlatMemory.{Done, reservation_set, is_reserved, is_ram_access}
-use Rattle.flex_base.specs.Story.{Want, Asks, Ends, IsOver, IsLater, Story, Says, Closes, StaysOver, ComesLater, story, pulses, after_pulse, begins, interrupted_by, fetches, works, jumps, branches, is_taken, ends, computes, passes, traps, traps_illegal, returns, supervises, is_machine, puts_csr, updates_csr, asks_csr, uses_csr, at_place, reaches, reaches_ram, is_tick, goes, want, concludes}
+use Rattle.flex_base.specs.StoryTree.{Want, Asks, Ends, IsOver, IsLater, Story, Says, Closes, StaysOver, ComesLater, goes, want}
+use Rattle.flex_base.specs.Ends.{jumps, ends, computes, passes, traps, traps_illegal, returns, concludes}
+use Rattle.flex_base.specs.Translating.{translates}
+use Rattle.flex_base.specs.Story.{story, pulses, after_pulse, begins, interrupted_by, fetches, fetches_at, works, branches, is_taken, supervises, is_machine, closes_csr, updates_csr, asks_csr, uses_csr, fences_memory, at_place, reaches, in_ram_at, loads_at, stores_at, loads_reserved_at, stores_conditional_at, modifies_at, is_tick}
 use Rattle.flex_base.specs.Csrs.{TVM, TW, TSR}
 use Rattle.flex_base.specs.Traps.{mret, sret, takeable}
-use Rattle.flex_base.specs.Zicsr.{CSR_TIME, reads_csr, writes_csr, csr_operand, csr_result, may_use_csr, is_pending_csr, csr_value, turns_translation_on}
+use Rattle.flex_base.specs.Zicsr.{CSR_TIME, reads_csr, writes_csr, csr_operand, csr_result, may_use_csr, is_pending_csr, csr_value}
 use Rattle.flex_base.specs.declared.class.Class.TheVariants as class
 use Rattle.flex_base.specs.declared.operation.CsrOp.{CsrOp}
 use Rattle.flex_base.specs.Unsplit.{Machine, story_of, want_of, reply_to, begin, make, step, reach, reach_from, with_access}
@@ -26,6 +29,10 @@ use Rattle.flex_base.specs.declared.operation.Op.{Op}
 use Rattle.flex_base.specs.declared.operation.Op.TheVariants as op
 use Rattle.flex_base.specs.declared.settings.Place.{Place}
 use Rattle.flex_base.specs.declared.settings.Place.TheVariants as place
+use Rattle.flex_base.specs.declared.translation.Kind.{Kind}
+use Rattle.flex_base.specs.declared.translation.Kind.TheVariants as kind
+use Rattle.flex_base.specs.declared.translation.Leaf.{Leaf}
+use Rattle.flex_base.proofs.Translating.{PassesWalks, translates_has}
 use Rattle.flex_base.proofs.Machines.{instruction_at-begin, reach-cons, reach-none, step_is, instruction_after_end, instruction_at-other, story_after_access, place_in}
 use Rattle.flex_base.proofs.Standing.{AllStand, all_step, all_begin}
 use Rattle.flex_base.proofs.Stories.{retires, goes_on}
@@ -64,17 +71,29 @@ reserved_is None set e = absurd cc
 reserved_is (Some other) set e = let same : other ≡ set = grind (arith, nat_tests, e) in ap Some same
 
 module _ (setup : Setup) (own : Option ℕ) (a : State) (held : IsOwn own a.reservation) where
-  reaches_reserves : (address width misaligned fault : ℕ) (access : Story) → Reserves own access
-      → Reserves own (reaches setup a address width misaligned fault access)
-  reaches_reserves address width misaligned fault access reserves =
-      either own (is_multiple address width) _ (traps a misaligned address)
-      (at_place_reserves own (place_of setup.harts setup.ram address width) access (traps a fault address) reserves held) held
+  reserves_passes : (va : ℕ) → PassesWalks a va (λ n s. Reserves own s)
+  reserves_passes va = record { more = λ n s reserves. reserves; reads = λ n address onward reserves. (tt, reserves); faults = λ n cause. held }
 
-  reaches_ram_reserves : (address width misaligned fault : ℕ) (access : Story) → Reserves own access
-      → Reserves own (reaches_ram setup a address width misaligned fault access)
-  reaches_ram_reserves address width misaligned fault access reserves =
-      either own (is_multiple address width) _ (traps a misaligned address)
-      (either own (in_ram setup.ram address width) access (traps a fault address) reserves held) held
+  translates_reserves : (k : Kind) (va : ℕ) (next : State → ℕ → Story)
+      → ((leaves : List Leaf) (address : ℕ) → Reserves own (next (record a { leaves = leaves }) address))
+      → Reserves own (translates setup.ram a k va next)
+  translates_reserves k va next reserves = translates_has setup.ram a k va next (λ n s. Reserves own s) (reserves_passes va) 0 reserves
+
+  reaches_reserves : (k : Kind) (width va : ℕ) (access : State → ℕ → Story)
+      → ((leaves : List Leaf) (address : ℕ) → Reserves own (access (record a { leaves = leaves }) address))
+      → Reserves own (reaches setup a k width va access)
+  reaches_reserves k width va access reserves =
+      either own (is_multiple va width) _ (traps a (misaligned k) va) (translates_reserves k va access reserves) held
+
+  placed_reserves : (p : Place) (leaves : List Leaf) (cause va : ℕ) (access : Story) → Reserves own access
+      → Reserves own (at_place p access (traps (record a { leaves = leaves }) cause va))
+  placed_reserves p leaves cause va access reserves =
+      at_place_reserves own p access (traps (record a { leaves = leaves }) cause va) reserves held
+
+  in_ram_reserves : (k : Kind) (leaves : List Leaf) (width va address : ℕ) (access : Story) → Reserves own access
+      → Reserves own (in_ram_at setup (record a { leaves = leaves }) k width va address access)
+  in_ram_reserves k leaves width va address access reserves =
+      either own (in_ram setup.ram address width) access (traps (record a { leaves = leaves }) (access_fault k) va) reserves held
 
   jumps_reserves : (target rd : ℕ) → Reserves own (jumps a target rd)
   jumps_reserves target rd = either own (is_multiple target 4) (ends a class.Jump target rd (wrap (a.pc + 4)))
@@ -83,20 +102,20 @@ module _ (setup : Setup) (own : Option ℕ) (a : State) (held : IsOwn own a.rese
   branches_reserves : (taken : Bool) (target : ℕ) → Reserves own (branches a taken target)
   branches_reserves taken target = either own taken _ (passes a class.Jump) (jumps_reserves target 0) held
 
-  conditional : (rd address width value : ℕ) (b : Bool) → is_reserved a.reservation (reservation_set address) ≡ b
-      → Reserves own (if b then Says (acc.Sc address width value) (λ reply. concludes a rd reply.value) else concludes a rd 1)
-  conditional rd address width value true e =
+  conditional : (leaves : List Leaf) (rd address width value : ℕ) (b : Bool) → is_reserved a.reservation (reservation_set address) ≡ b
+      → Reserves own (if b then Says (acc.Sc address width value) (λ reply. concludes (record a { leaves = leaves }) rd reply.value)
+      else concludes (record a { leaves = leaves }) rd 1)
+  conditional leaves rd address width value true e =
       (held (reservation_set address) (reserved_is a.reservation (reservation_set address) e), λ reply. none_own _)
-  conditional rd address width value false e = none_own own
+  conditional leaves rd address width value false e = none_own own
 
   -- whatever interrupt lines it has by then
   updates_csr_reserves : (lines : ℕ) (does : CsrOp) (rd rs1 number old : ℕ)
       → Reserves own (updates_csr (record a { lines = lines }) does rd rs1 number old)
   updates_csr_reserves lines does rd rs1 number old =
       let b : State = record a { lines = lines } in
-      let value = csr_result does old (csr_operand does a.x rs1) in
-      either own (writes_csr does rs1) (puts_csr b number rd old value) (computes b class.Csr rd old)
-      (either own (turns_translation_on number value) ComesLater _ tt held) held
+      either own (writes_csr does rs1) (closes_csr b number rd old (csr_result does old (csr_operand does a.x rs1)))
+      (computes b class.Csr rd old) held held
 
   asks_csr_reserves : (does : CsrOp) (rd rs1 number : ℕ) → Reserves own (asks_csr a does rd rs1 number)
   asks_csr_reserves does rd rs1 number =
@@ -126,17 +145,26 @@ module _ (setup : Setup) (own : Option ℕ) (a : State) (held : IsOwn own a.rese
   works_reserves word (op.Branch compares rs1 rs2 imm) =
       branches_reserves (is_taken compares (reg a.x rs1) (reg a.x rs2)) (wrap (a.pc + imm))
   works_reserves word (op.Load width signed rd rs1 imm) =
-      reaches_reserves _ width load_address_misaligned load_access_fault _ (tt, λ reply. held)
+      let va = wrap (reg a.x rs1 + imm) in
+      reaches_reserves kind.Load width va (loads_at setup width signed rd va) (λ leaves address.
+      placed_reserves (place_of setup.harts setup.ram address width) leaves load_access_fault va _ (tt, λ reply. held))
   works_reserves word (op.Store width rs1 rs2 imm) =
-      reaches_reserves _ width store_address_misaligned store_access_fault _ (tt, λ reply. held)
+      let va = wrap (reg a.x rs1 + imm) in
+      reaches_reserves kind.Store width va (stores_at setup width (reg a.x rs2) va) (λ leaves address.
+      placed_reserves (place_of setup.harts setup.ram address width) leaves store_access_fault va _ (tt, λ reply. held))
   works_reserves word (op.Lr width rd rs1 aq rl) =
-      reaches_ram_reserves _ width load_address_misaligned load_access_fault _
-      (tt, λ reply set e. e)
+      let va = reg a.x rs1 in
+      reaches_reserves kind.Load width va (loads_reserved_at setup width rd va) (λ leaves address.
+      in_ram_reserves kind.Load leaves width va address _ (tt, λ reply set e. e))
   works_reserves word (op.Sc width rd rs1 rs2 aq rl) =
-      reaches_ram_reserves _ width store_address_misaligned store_access_fault _
-      (conditional rd (reg a.x rs1) width _ (is_reserved a.reservation (reservation_set (reg a.x rs1))) refl)
+      let va = reg a.x rs1 in
+      reaches_reserves kind.Store width va (stores_conditional_at setup width rd (reg a.x rs2) va) (λ leaves address.
+      in_ram_reserves kind.Store leaves width va address _
+      (conditional leaves rd address width _ (is_reserved a.reservation (reservation_set address)) refl))
   works_reserves word (op.Amo does width rd rs1 rs2 aq rl) =
-      reaches_ram_reserves _ width store_address_misaligned store_access_fault _ (tt, λ reply. held)
+      let va = reg a.x rs1 in
+      reaches_reserves kind.Store width va (modifies_at setup does width rd (reg a.x rs2) va) (λ leaves address.
+      in_ram_reserves kind.Store leaves width va address _ (tt, λ reply. held))
   works_reserves word (op.Fence free) = held
   works_reserves word (op.FenceI free) = held
   works_reserves word (op.Csr does rd rs1 number) = uses_csr_reserves word does rd rs1 number
@@ -148,13 +176,18 @@ module _ (setup : Setup) (own : Option ℕ) (a : State) (held : IsOwn own a.rese
       either own (supervises TSR a.csrs a.mode) (returns a (sret a.csrs)) (traps_illegal a word) held held
   works_reserves word op.Wfi = either own (supervises TW a.csrs a.mode) ComesLater (traps_illegal a word) tt held
   works_reserves word (op.SfenceVma rs1 rs2) =
-      either own (supervises TVM a.csrs a.mode) ComesLater (traps_illegal a word) tt held
+      either own (supervises TVM a.csrs a.mode) (fences_memory a) (traps_illegal a word) held held
   works_reserves word (op.Illegal whole) = held
 
+fetches_at_reserves : (setup : Setup) (own : Option ℕ) (a : State) → IsOwn own a.reservation → (address : ℕ) → Reserves own (fetches_at setup a address)
+fetches_at_reserves setup own a held address =
+    either own (in_ram setup.ram address 4) (goes_on setup a address) (traps a instruction_access_fault a.pc)
+    (tt, λ reply. works_reserves setup own a held reply.value (decoded reply.value)) held
+
+module _ (setup : Setup) (own : Option ℕ) (a : State) (held : IsOwn own a.reservation) where
   fetches_reserves : Reserves own (fetches setup a)
-  fetches_reserves =
-      either own (in_ram setup.ram a.pc 4) (goes_on setup a) (traps a instruction_access_fault a.pc)
-      (tt, λ reply. works_reserves reply.value (decoded reply.value)) held
+  fetches_reserves = translates_reserves setup own a held kind.Fetch a.pc (fetches_at setup)
+      (λ leaves address. fetches_at_reserves setup own (record a { leaves = leaves }) held address)
 
   interrupted_reserves : (by : Option ℕ) → Reserves own (interrupted_by setup a by)
   interrupted_reserves None = fetches_reserves

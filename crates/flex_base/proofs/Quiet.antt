@@ -4,7 +4,7 @@ use Rattle.std.specs.List.{filter_map}
 use Rattle.std.proofs.lemmas.Bool.Decides.{nat_tests}
 use Rattle.std.proofs.lemmas.List.Elements.{filter_map-append}
 use Rattle.flex_base.specs.Setup.{Setup}
-use Rattle.flex_base.specs.Story.{Want, Asks, Ends, IsOver, IsLater, Story, Says, Closes, StaysOver, ComesLater, want}
+use Rattle.flex_base.specs.StoryTree.{Want, Asks, Ends, IsOver, IsLater, Story, Says, Closes, StaysOver, ComesLater, want}
 use Rattle.flex_base.specs.Unsplit.{Machine, Made, instruction_at, story_of, want_of, reply_to, make, step, begin, unsplit, reach_from, does}
 use Rattle.flex_base.specs.Journal.{byte_of, sent}
 use Rattle.flex_base.specs.declared.access.Access.{Access}
@@ -13,7 +13,8 @@ use Rattle.flex_base.specs.declared.access.Reply.{Reply}
 use Rattle.flex_base.specs.declared.event.What.{What}
 use Rattle.flex_base.specs.declared.event.What.TheVariants as what
 use Rattle.flex_base.proofs.Machines.{reach-cons, reach-none}
-use Rattle.flex_base.proofs.Standing.{IsSilent, Leads, Stands, Works, Retires, Retired, AllStand, all_step, all_begin}
+use Rattle.flex_base.proofs.Leading.{IsSilent, Leads}
+use Rattle.flex_base.proofs.Standing.{Stands, Works, Retires, Retired, AllStand, all_step, all_begin}
 
 sent_push : (made : List Made) (h : ℕ) (happened : What) → byte_of happened ≡ None → sent (made ++ does h happened ∷ []) ≡ sent made
 unfolding sent

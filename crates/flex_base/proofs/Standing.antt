@@ -6,18 +6,10 @@ use Rattle.std.proofs.lemmas.List.Elements.{filter-append}
 use Rattle.std.proofs.lemmas.List.Folds.{list_any-append}
 use Rattle.std.proofs.lemmas.List.FromFn.{length-map-range_with_len}
 use Rattle.flex_base.specs.Setup.{Setup}
-use Rattle.flex_base.specs.State.{State, reg, start}
-use Rattle.flex_base.specs.Place.{in_ram, place_of}
-use Rattle.flex_base.specs.Word.{wrap, is_multiple}
-use Rattle.flex_base.specs.Causes.{instruction_address_misaligned, instruction_access_fault, load_address_misaligned, load_access_fault, store_address_misaligned, store_access_fault}
-use Rattle.flex_base.specs.Decoding.{decoded}
-use Rattle.flex_base.specs.FlatMemory.{Done, flat, is_ram_access, is_reserved, reservation_set}
-use Rattle.flex_base.specs.Story.{Want, Asks, Ends, IsOver, IsLater, Story, Says, Closes, StaysOver, ComesLater, pulses, after_pulse, begins, interrupted_by, fetches, works, jumps, branches, is_taken, ends, computes, traps, traps_illegal, returns, supervises, is_machine, puts_csr, updates_csr, asks_csr, uses_csr, at_place, reaches, reaches_ram, is_tick, want}
-use Rattle.flex_base.specs.Csrs.{TVM, TW, TSR}
-use Rattle.flex_base.specs.Traps.{mret, sret, takeable}
-use Rattle.flex_base.specs.Zicsr.{CSR_TIME, reads_csr, writes_csr, csr_operand, csr_result, may_use_csr, is_pending_csr, csr_value, turns_translation_on}
-use Rattle.flex_base.specs.declared.class.Class.TheVariants as class
-use Rattle.flex_base.specs.declared.operation.CsrOp.{CsrOp}
+use Rattle.flex_base.specs.State.{State, start}
+use Rattle.flex_base.specs.FlatMemory.{Done, flat, is_ram_access}
+use Rattle.flex_base.specs.StoryTree.{Want, Asks, Ends, IsOver, IsLater, Story, Says, Closes, StaysOver, ComesLater, want}
+use Rattle.flex_base.specs.Story.{pulses}
 use Rattle.flex_base.specs.Unsplit.{Machine, Instruction, Made, instruction_from, instruction_at, story_of, want_of, reply_to, begin, make, with_access, does, step, reach, reach_from}
 use Rattle.flex_base.specs.DevicesSoFar.{device_reply, is_retire, is_spent}
 use Rattle.flex_base.specs.Rounds.{most_events}
@@ -27,119 +19,9 @@ use Rattle.flex_base.specs.declared.access.Access.TheVariants as acc
 use Rattle.flex_base.specs.declared.access.Reply.{Reply}
 use Rattle.flex_base.specs.declared.event.What.{What}
 use Rattle.flex_base.specs.declared.event.What.TheVariants as what
-use Rattle.flex_base.specs.declared.operation.Op.{Op}
-use Rattle.flex_base.specs.declared.operation.Op.TheVariants as op
-use Rattle.flex_base.specs.declared.settings.Place.{Place}
-use Rattle.flex_base.specs.declared.settings.Place.TheVariants as place
 use Rattle.flex_base.proofs.Machines.{instruction_at-begin, Stays, Adds, step_steps, reach-cons, reach-none, step_is, instruction_after_access, story_after_access, instruction_after_end, instruction_at-other, length-step, place_in}
-use Rattle.flex_base.proofs.Stories.{retires, goes_on, story_spent, story_unspent}
-
--- An instruction makes few events, and leaves its hart over by a reply with the stop alone.
-
--- an access that transmits nothing to the console
-abbrev pub IsSilent : Access → Type 0
-IsSilent (acc.DevWrite address width value) = ⊥
-IsSilent other = Unit {0}
-
--- from here on come at most so many events, all silent, the last of which counts one more end than these. No replies lead to
--- the hart's being over, as long as none tells the stop
-abbrev pub Leads : ℕ → ℕ → Story → Type 0
-Leads zero ends (Says access next) = ⊥
-Leads (suc n) ends (Says access next) = IsSilent access × ((reply : Reply) → reply.stop ≡ false → Leads n ends (next reply))
-Leads zero ends (Closes part after) = ⊥
-Leads (suc n) ends (Closes part after) = after.ends ≡ ends + 1
-Leads n ends StaysOver = ⊥
-Leads n ends ComesLater = Unit {0}
-
-either_leads : (n ends : ℕ) (b : Bool) (s t : Story) → Leads n ends s → Leads n ends t → Leads n ends (if b then s else t)
-either_leads n ends true s t first second = first
-either_leads n ends false s t first second = second
-
-at_place_leads : (n ends : ℕ) (p : Place) (access fault : Story) → Leads n ends access → Leads n ends fault → Leads n ends (at_place p access fault)
-at_place_leads n ends place.Ram access fault first second = first
-at_place_leads n ends place.Device access fault first second = tt
-at_place_leads n ends place.Nowhere access fault first second = second
-
-reaches_leads : (setup : Setup) (a : State) (n address width misaligned fault : ℕ) (access : Story) → Leads (suc n) a.ends access → Leads (suc n) a.ends (reaches setup a address width misaligned fault access)
-reaches_leads setup a n address width misaligned fault access leads =
-    either_leads (suc n) a.ends (is_multiple address width) _ _ (at_place_leads (suc n) a.ends (place_of setup.harts setup.ram address width) access (traps a fault address) leads refl) refl
-
-reaches_ram_leads : (setup : Setup) (a : State) (n address width misaligned fault : ℕ) (access : Story) → Leads (suc n) a.ends access → Leads (suc n) a.ends (reaches_ram setup a address width misaligned fault access)
-reaches_ram_leads setup a n address width misaligned fault access leads =
-    either_leads (suc n) a.ends (is_multiple address width) _ _ (either_leads (suc n) a.ends (in_ram setup.ram address width) access (traps a fault address) leads refl) refl
-
-jumps_leads : (a : State) (n target rd : ℕ) → Leads (suc n) a.ends (jumps a target rd)
-jumps_leads a n target rd =
-    either_leads (suc n) a.ends (is_multiple target 4) (ends a class.Jump target rd (wrap (a.pc + 4))) (traps a instruction_address_misaligned target) refl refl
-
-branches_leads : (a : State) (n : ℕ) (taken : Bool) (target : ℕ) → Leads (suc n) a.ends (branches a taken target)
-branches_leads a n taken target = either_leads (suc n) a.ends taken _ _ (jumps_leads a n target 0) refl
-
-unstopped_leads : (n ends : ℕ) (stop : Bool) (s : Story) → stop ≡ false → Leads n ends s → Leads n ends (if stop then StaysOver else s)
-unstopped_leads n ends true s going leads = absurd cc
-unstopped_leads n ends false s going leads = leads
-
-updates_csr_leads : (a : State) (n : ℕ) (does : CsrOp) (rd rs1 number old : ℕ) → Leads (suc n) a.ends (updates_csr a does rd rs1 number old)
-updates_csr_leads a n does rd rs1 number old =
-    either_leads (suc n) a.ends (writes_csr does rs1) (puts_csr a number rd old (csr_result does old (csr_operand does a.x rs1))) (computes a class.Csr rd old)
-    (either_leads (suc n) a.ends (turns_translation_on number (csr_result does old (csr_operand does a.x rs1))) _ _ tt refl) refl
-
-asks_csr_leads : (a : State) (n : ℕ) (does : CsrOp) (rd rs1 number : ℕ) → Leads (suc (suc n)) a.ends (asks_csr a does rd rs1 number)
-asks_csr_leads a n does rd rs1 number =
-    either_leads (suc (suc n)) a.ends (is_pending_csr number) _ _
-    (tt, λ reply going. unstopped_leads (suc n) a.ends reply.stop _ going (updates_csr_leads (record a { lines = reply.lines }) n does rd rs1 number (csr_value a number reply.lines 0)))
-    (either_leads (suc (suc n)) a.ends (number == CSR_TIME) _ _
-    (tt, λ reply going. updates_csr_leads a n does rd rs1 number (csr_value a number 0 reply.value))
-    (updates_csr_leads a (suc n) does rd rs1 number (csr_value a number 0 0)))
-
-uses_csr_leads : (a : State) (n word : ℕ) (does : CsrOp) (rd rs1 number : ℕ) → Leads (suc (suc n)) a.ends (uses_csr a word does rd rs1 number)
-uses_csr_leads a n word does rd rs1 number =
-    either_leads (suc (suc n)) a.ends (may_use_csr a does rd rs1 number) _ (traps_illegal a word)
-    (either_leads (suc (suc n)) a.ends (reads_csr does rd) _ _ (asks_csr_leads a n does rd rs1 number) (updates_csr_leads a (suc n) does rd rs1 number 0))
-    refl
-
--- an instruction makes at most one access before its end
-works_leads : (setup : Setup) (a : State) (n word : ℕ) (o : Op) → Leads (suc (suc n)) a.ends (works setup a word o)
-works_leads setup a n word (op.Lui rd imm) = refl
-works_leads setup a n word (op.Auipc rd imm) = refl
-works_leads setup a n word (op.AluImm does rd rs1 imm) = refl
-works_leads setup a n word (op.AluReg does rd rs1 rs2) = refl
-works_leads setup a n word (op.Muldiv does rd rs1 rs2) = refl
-works_leads setup a n word (op.Jal rd imm) = jumps_leads a (suc n) _ rd
-works_leads setup a n word (op.Jalr rd rs1 imm) = jumps_leads a (suc n) _ rd
-works_leads setup a n word (op.Branch compares rs1 rs2 imm) = branches_leads a (suc n) (is_taken compares (reg a.x rs1) (reg a.x rs2)) (wrap (a.pc + imm))
-works_leads setup a n word (op.Load width signed rd rs1 imm) = reaches_leads setup a (suc n) _ width load_address_misaligned load_access_fault _ (tt, λ reply going. refl)
-works_leads setup a n word (op.Store width rs1 rs2 imm) = reaches_leads setup a (suc n) _ width store_address_misaligned store_access_fault _ (tt, λ reply going. refl)
-works_leads setup a n word (op.Lr width rd rs1 aq rl) = reaches_ram_leads setup a (suc n) _ width load_address_misaligned load_access_fault _ (tt, λ reply going. refl)
-works_leads setup a n word (op.Sc width rd rs1 rs2 aq rl) =
-    reaches_ram_leads setup a (suc n) _ width store_address_misaligned store_access_fault _ (either_leads (suc (suc n)) a.ends (is_reserved a.reservation (reservation_set (reg a.x rs1))) _ _ (tt, λ reply going. refl) refl)
-works_leads setup a n word (op.Amo does width rd rs1 rs2 aq rl) = reaches_ram_leads setup a (suc n) _ width store_address_misaligned store_access_fault _ (tt, λ reply going. refl)
-works_leads setup a n word (op.Fence free) = refl
-works_leads setup a n word (op.FenceI free) = refl
-works_leads setup a n word (op.Csr does rd rs1 number) = uses_csr_leads a n word does rd rs1 number
-works_leads setup a n word op.Ecall = refl
-works_leads setup a n word op.Ebreak = refl
-works_leads setup a n word op.Mret = either_leads (suc (suc n)) a.ends (is_machine a.mode) (returns a (mret a.csrs)) (traps_illegal a word) refl refl
-works_leads setup a n word op.Sret = either_leads (suc (suc n)) a.ends (supervises TSR a.csrs a.mode) (returns a (sret a.csrs)) (traps_illegal a word) refl refl
-works_leads setup a n word op.Wfi = either_leads (suc (suc n)) a.ends (supervises TW a.csrs a.mode) ComesLater (traps_illegal a word) tt refl
-works_leads setup a n word (op.SfenceVma rs1 rs2) = either_leads (suc (suc n)) a.ends (supervises TVM a.csrs a.mode) ComesLater (traps_illegal a word) tt refl
-works_leads setup a n word (op.Illegal whole) = refl
-
-fetches_leads : (setup : Setup) (a : State) (n : ℕ) → Leads (suc (suc (suc n))) a.ends (fetches setup a)
-fetches_leads setup a n =
-    either_leads (suc (suc (suc n))) a.ends (in_ram setup.ram a.pc 4) (goes_on setup a) (traps a instruction_access_fault a.pc) (tt, λ reply going. works_leads setup a n reply.value (decoded reply.value)) refl
-
-interrupted_leads : (setup : Setup) (a : State) (n : ℕ) (by : Option ℕ) → Leads (suc (suc (suc n))) a.ends (interrupted_by setup a by)
-interrupted_leads setup a n None = fetches_leads setup a n
-interrupted_leads setup a n (Some cause) = refl
-
-begins_leads : (setup : Setup) (a : State) (n : ℕ) → Leads (suc (suc (suc n))) a.ends (begins setup a)
-begins_leads setup a n = interrupted_leads setup a n (takeable a.csrs a.lines a.mode)
-
-pulses_leads : (setup : Setup) (a : State) → Leads 10 a.ends (pulses setup a)
-pulses_leads setup a = either_leads 10 a.ends a.due (Says (acc.Pulse (is_tick a)) (after_pulse setup a)) (begins setup a)
-    (tt, λ reply going. unstopped_leads 9 a.ends reply.stop _ going (begins_leads setup (record a { lines = reply.lines }) 6))
-    (begins_leads setup a 7)
+use Rattle.flex_base.proofs.Stories.{retires, story_spent, story_unspent}
+use Rattle.flex_base.proofs.Leading.{Leads, pulses_leads}
 
 -- No reply of memory or of the devices tells the stop.
 

@@ -1,10 +1,11 @@
 -- Going on in a story by one reply.
-use Rattle.std.proofs.Common.{◌≡◌, ◌≢◌, true, false, if◌then◌else◌, List, [], ◌∷◌, ◌++◌, refl, ap, sym, ◌∙◌, eq-eqb}
+use Rattle.std.proofs.Common.{◌≡◌, ◌≢◌, ℕ, true, false, if◌then◌else◌, List, [], ◌∷◌, ◌++◌, refl, ap, sym, ◌∙◌, eq-eqb}
 use Rattle.std.proofs.lemmas.Bool.{ne_eqb}
 use Rattle.flex_base.specs.Setup.{Setup}
 use Rattle.flex_base.specs.State.{State}
 use Rattle.flex_base.specs.Decoding.{decoded}
-use Rattle.flex_base.specs.Story.{Ends, Story, Says, Closes, StaysOver, ComesLater, story, pulses, after_pulse, begins, works, is_tick, goes, want, ask, after_one}
+use Rattle.flex_base.specs.StoryTree.{Ends, Story, Says, Closes, StaysOver, ComesLater, goes, want, after_one}
+use Rattle.flex_base.specs.Story.{story, pulses, after_pulse, begins, works, is_tick, ask}
 use Rattle.flex_base.specs.declared.access.Access.TheVariants as acc
 use Rattle.flex_base.specs.declared.access.Reply.{Reply}
 use Rattle.flex_base.specs.declared.event.EndPart.{EndPart}
@@ -29,8 +30,8 @@ goes-StaysOver (reply ∷ replies) = refl
 abbrev pub retires : Story
 retires = Says acc.Retire (λ reply. StaysOver)
 
-abbrev pub goes_on : Setup → State → Story
-goes_on setup a = Says (acc.Fetch a.pc) (λ reply. works setup a reply.value (decoded reply.value))
+abbrev pub goes_on : Setup → State → ℕ → Story
+goes_on setup a address = Says (acc.Fetch address) (λ reply. works setup a reply.value (decoded reply.value))
 
 pub story_spent : (setup : Setup) (a : State) → a.ends ≡ setup.budget → story setup a ≡ retires
 story_spent setup a spent = ap (λ b. if b then retires else pulses setup a) (eq-eqb a.ends setup.budget spent)

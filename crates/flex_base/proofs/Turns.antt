@@ -6,7 +6,7 @@ use Rattle.std.specs.Prelude.{is_some}
 use Rattle.std.specs.List.{list_all, range_with_len}
 use Rattle.flex_base.specs.Setup.{Setup}
 use Rattle.flex_base.specs.State.{State}
-use Rattle.flex_base.specs.Story.{Want, Asks, Ends, IsOver, IsLater, Story, Says, Closes, StaysOver, ComesLater, want}
+use Rattle.flex_base.specs.StoryTree.{Want, Asks, Ends, IsOver, IsLater, Story, Says, Closes, StaysOver, ComesLater, want}
 use Rattle.flex_base.specs.Unsplit.{Machine, instruction_at, story_of, want_of, reply_to, step, reach_from, hart_numbers, is_over, has_ended}
 use Rattle.flex_base.specs.DevicesSoFar.{is_spent, stop_of}
 use Rattle.flex_base.specs.Rounds.{turn, turn_of, turns}

@@ -1,7 +1,7 @@
 -- What is built: all but what the story of an instruction leaves for later. A run stops before it.
 use Rattle.std.specs.Prelude.{ℕ, Bool, true, false, nat_lt, if◌then◌else◌, List, [], ◌∷◌, Option, None, Some}
 use Rattle.flex_base.specs.Setup.{Setup}
-use Rattle.flex_base.specs.Story.{Want, IsLater}
+use Rattle.flex_base.specs.StoryTree.{Want, IsLater}
 use Rattle.flex_base.specs.Unsplit.{Machine, instruction_at, want_of, step}
 
 abbrev pub is_built : Want → Bool

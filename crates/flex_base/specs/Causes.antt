@@ -3,6 +3,8 @@ use Rattle.std.specs.Prelude.{ℕ, ◌+◌, ◌^◌, Bool}
 use Rattle.flex_base.specs.Word.{field, is_set}
 use Rattle.flex_base.specs.declared.hart.Mode.{Mode}
 use Rattle.flex_base.specs.declared.hart.Mode.TheVariants as mode
+use Rattle.flex_base.specs.declared.translation.Kind.{Kind}
+use Rattle.flex_base.specs.declared.translation.Kind.TheVariants as kind
 
 -- Exceptions.
 abbrev pub instruction_address_misaligned : ℕ
@@ -42,6 +44,22 @@ load_page_fault = 13
 
 abbrev pub store_page_fault : ℕ
 store_page_fault = 15
+
+-- The exceptions of each kind of access: by its alignment, by its translation, and by its place.
+abbrev pub misaligned : Kind → ℕ
+misaligned kind.Fetch = instruction_address_misaligned
+misaligned kind.Load = load_address_misaligned
+misaligned kind.Store = store_address_misaligned
+
+abbrev pub page_fault : Kind → ℕ
+page_fault kind.Fetch = instruction_page_fault
+page_fault kind.Load = load_page_fault
+page_fault kind.Store = store_page_fault
+
+abbrev pub access_fault : Kind → ℕ
+access_fault kind.Fetch = instruction_access_fault
+access_fault kind.Load = load_access_fault
+access_fault kind.Store = store_access_fault
 
 -- Interrupts, by their bits in mip and mie.
 abbrev pub SSI : ℕ

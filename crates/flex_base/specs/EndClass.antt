@@ -1,6 +1,6 @@
 -- The class of the end to which a story leads.
 use Rattle.std.specs.Prelude.{◌≡◌, ◌⊎◌}
-use Rattle.flex_base.specs.Story.{Story, Says, Closes, StaysOver, ComesLater}
+use Rattle.flex_base.specs.StoryTree.{Story, Says, Closes, StaysOver, ComesLater}
 use Rattle.flex_base.specs.declared.access.Reply.{Reply}
 use Rattle.flex_base.specs.declared.class.Class.{Class}
 use Rattle.flex_base.specs.declared.class.Class.TheVariants as class

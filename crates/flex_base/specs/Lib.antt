@@ -12,10 +12,13 @@ pub mod OuterInMemory
 pub mod Classes
 pub mod Decoding
 pub mod Arithmetic
+pub mod Translation
 pub mod State
 pub mod Setup
 pub mod Zicsr
-pub mod Translation
+pub mod StoryTree
+pub mod Ends
+pub mod Translating
 pub mod Story
 pub mod EndClass
 pub mod Forms

@@ -2,7 +2,7 @@
 use Rattle.std.specs.Prelude.{◌≡◌, ℕ, Bool, true, false, not, ◌&&◌, ◌||◌, ◌==◌, if◌then◌else◌, List, [], ◌∷◌, ◌++◌, fold, Option, None, Some}
 use Rattle.std.specs.List.{list_all}
 use Rattle.flex_base.specs.FlatMemory.{Done, reservation_set}
-use Rattle.flex_base.specs.Story.{Want, Asks, Story, Says}
+use Rattle.flex_base.specs.StoryTree.{Want, Asks, Story, Says}
 use Rattle.flex_base.specs.declared.access.Access.{Access}
 use Rattle.flex_base.specs.declared.access.Access.TheVariants as acc
 use Rattle.flex_base.specs.declared.access.Reply.{Reply}

@@ -1,7 +1,7 @@
 -- The rounds: the harts in rising order, again and again, each up to and including its next end.
 use Rattle.std.specs.Prelude.{ℕ, ◌+◌, ◌*◌, zero, suc, if◌then◌else◌, List, [], ◌∷◌, ◌++◌}
 use Rattle.flex_base.specs.Setup.{Setup}
-use Rattle.flex_base.specs.Story.{Story, Says, Closes, StaysOver, ComesLater}
+use Rattle.flex_base.specs.StoryTree.{Story, Says, Closes, StaysOver, ComesLater}
 use Rattle.flex_base.specs.Unsplit.{Machine, story_of, reply_to, step, reach, reach_from, has_ended, hart_numbers}
 
 -- the same names, so many times

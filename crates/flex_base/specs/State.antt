@@ -1,10 +1,12 @@
 -- A hart's state at the start of an instruction (Volume I, "Programmers' Model"; Volume II, "Machine-Level ISA").
-use Rattle.std.specs.Prelude.{◌≡◌, ℕ, ◌≤◌, Bool, true, false, ◌==◌, if◌then◌else◌, List, Option, None, MatchOption, replicate, slice_index, slice_set}
+use Rattle.std.specs.Prelude.{◌≡◌, ℕ, ◌≤◌, Bool, true, false, ◌==◌, if◌then◌else◌, List, [], Option, None, MatchOption, replicate, slice_index, slice_set}
 use Rattle.flex_base.specs.Word.{is_multiple}
 use Rattle.flex_base.specs.Place.{in_ram}
 use Rattle.flex_base.specs.Csrs.{start_csrs, AreFit}
+use Rattle.flex_base.specs.Translation.{AreLeaves}
 use Rattle.flex_base.specs.declared.hart.Mode.{Mode}
 use Rattle.flex_base.specs.declared.hart.Mode.TheVariants as mode
+use Rattle.flex_base.specs.declared.translation.Leaf.{Leaf}
 
 pub record State : Type 0 where
   pub pc : ℕ
@@ -21,6 +23,8 @@ pub record State : Type 0 where
   pub due : Bool
   -- the stores of the control and status registers
   pub csrs : List ℕ
+  -- the leaves that walks have found since the last fence, from the first to the last
+  pub leaves : List Leaf
 
 -- the value of a register; x0 is 0
 abbrev pub reg : List ℕ → ℕ → ℕ
@@ -30,7 +34,7 @@ reg x r = if r == 0 then 0 else slice_index x r
 abbrev pub set_reg : List ℕ → ℕ → ℕ → List ℕ
 set_reg x r value = if r == 0 then x else slice_set x r value
 
--- a hart begins at the entry, in mode M, with its number in x10 and in mhartid
+-- a hart begins at the entry, in mode M, with its number in x10 and in mhartid, and keeps no translation
 abbrev pub start : ℕ → ℕ → State
 start hart entry = record {
   pc = entry;
@@ -41,6 +45,7 @@ start hart entry = record {
   lines = 0;
   due = false;
   csrs = start_csrs hart;
+  leaves = [];
 }
 
 -- a reservation is 8 aligned bytes of RAM
@@ -48,9 +53,10 @@ abbrev pub IsReservation : ℕ → Option ℕ → Type 0
 IsReservation ram reservation = MatchOption reservation (Unit {0}) (λ r. (is_multiple r 8 ≡ true) × (in_ram ram r 8 ≡ true))
 
 -- a state that one of so many harts can be in: the pc is aligned, the budget isn't overspent, a reservation is 8 aligned bytes
--- of RAM, and the stores are such as instructions leave
+-- of RAM, the stores are such as instructions leave, and so are the leaves
 pub record IsFit (harts ram budget : ℕ) (a : State) : Type 0 where
   pub aligned : is_multiple a.pc 4 ≡ true
   pub within : a.ends ≤ budget
   pub reserved : IsReservation ram a.reservation
   pub csrs : AreFit harts a.csrs
+  pub leaves : AreLeaves a.leaves

@@ -1,23 +1,25 @@
 -- The story of one instruction: what a hart does, from the state at the start and the replies so far.
-use Rattle.std.specs.Prelude.{ℕ, ◌+◌, ◌-◌, ◌*◌, ◌%◌, Bool, true, false, not, ◌&&◌, ◌||◌, ◌==◌, nat_lt, if◌then◌else◌, List, [], ◌∷◌, slice_index, Option, None, Some}
+use Rattle.std.specs.Prelude.{ℕ, ◌+◌, ◌-◌, ◌*◌, ◌%◌, Bool, true, false, not, ◌&&◌, ◌==◌, nat_lt, if◌then◌else◌, List, [], ◌∷◌, slice_index, Option, None, Some}
 use Rattle.flex_base.specs.Word.{wrap, low, sign_extend, is_multiple, is_set}
 use Rattle.flex_base.specs.Place.{in_ram, place_of}
-use Rattle.flex_base.specs.Causes.{instruction_address_misaligned, instruction_access_fault, illegal_instruction, breakpoint, load_address_misaligned, load_access_fault, store_address_misaligned, store_access_fault, ecall_from}
+use Rattle.flex_base.specs.Causes.{instruction_access_fault, breakpoint, load_access_fault, store_access_fault, misaligned, access_fault, ecall_from}
 use Rattle.flex_base.specs.Csrs.{mstatus, TVM, TW, TSR}
-use Rattle.flex_base.specs.Traps.{Transfer, trap, mret, sret, count, takeable}
-use Rattle.flex_base.specs.Zicsr.{CSR_TIME, reads_csr, writes_csr, csr_operand, csr_result, may_use_csr, is_pending_csr, csr_value, csrs_with, count_but, makes_due, turns_translation_on}
+use Rattle.flex_base.specs.Traps.{mret, sret, takeable}
+use Rattle.flex_base.specs.Zicsr.{CSR_TIME, reads_csr, writes_csr, csr_operand, csr_result, may_use_csr, is_pending_csr, csr_value, csrs_with, count_but, makes_due, turns_satp}
 use Rattle.flex_base.specs.Decoding.{decoded}
 use Rattle.flex_base.specs.Arithmetic.{alu_of, muldiv_of, signed_lt}
 use Rattle.flex_base.specs.FlatMemory.{reservation_set, is_reserved}
 use Rattle.std.specs.Int.{w64}
 use Rattle.flex_base.specs.State.{State, reg, set_reg}
 use Rattle.flex_base.specs.Setup.{Setup}
+use Rattle.flex_base.specs.StoryTree.{Want, Story, Says, StaysOver, ComesLater, goes, want}
+use Rattle.flex_base.specs.Ends.{finishes, told_of, ends, traps, traps_illegal, returns, jumps, computes, passes, concludes}
+use Rattle.flex_base.specs.Translating.{translates}
 use Rattle.flex_base.specs.declared.access.Access.{Access}
 use Rattle.flex_base.specs.declared.access.Access.TheVariants as acc
 use Rattle.flex_base.specs.declared.access.Reply.{Reply}
 use Rattle.flex_base.specs.declared.class.Class.{Class}
 use Rattle.flex_base.specs.declared.class.Class.TheVariants as class
-use Rattle.flex_base.specs.declared.event.EndPart.{EndPart}
 use Rattle.flex_base.specs.declared.hart.Mode.{Mode}
 use Rattle.flex_base.specs.declared.hart.Mode.TheVariants as mode
 use Rattle.flex_base.specs.declared.operation.AmoOp.{AmoOp}
@@ -28,68 +30,9 @@ use Rattle.flex_base.specs.declared.settings.Place.TheVariants as place
 use Rattle.flex_base.specs.declared.operation.Op.TheVariants as op
 use Rattle.flex_base.specs.declared.operation.BranchOp.{BranchOp}
 use Rattle.flex_base.specs.declared.operation.BranchOp.TheVariants as branch
-
--- what a hart wants next: an access, an end that leaves a state, or nothing any more. What is to come later has no meaning yet
-pub data Want : Type 0 where
-  Asks : Access → Want
-  Ends : EndPart → State → Want
-  IsOver : Want
-  IsLater : Want
-
--- what a hart does from here on: an access and then, by its reply, what follows; an end; nothing any more; or what comes later
-pub data Story : Type 0 where
-  Says : Access → (Reply → Story) → Story
-  Closes : EndPart → State → Story
-  StaysOver : Story
-  ComesLater : Story
-
--- The ends of instructions.
-
--- an instruction of this class ends, and leaves its results in a state; two values more are told of it. One end more is
--- counted, and after each 64th a pulse is due, also where the instruction itself makes none due
-abbrev pub finishes : State → Class → State → ℕ → ℕ → Bool → Story
-finishes a class after first second due = Closes
-    (record { class = class; pc = a.pc; next = after.pc; first = first; second = second })
-    (record after { ends = a.ends + 1; due = due || is_multiple (a.ends + 1) 64 })
-
--- what is told of a register that is written (0 for none)
-abbrev pub told_of : ℕ → ℕ → ℕ
-told_of rd value = if rd == 0 then 0 else value
-
--- an end that writes a register (0 for none) and goes on at `next`; a cycle and an instruction are counted
-abbrev pub ends : State → Class → ℕ → ℕ → ℕ → Story
-ends a class next rd value = finishes a class
-    (record a { pc = next; x = set_reg a.x rd value; csrs = count a.csrs true true }) rd (told_of rd value) false
-
--- a trap leads here; a cycle is counted, and no instruction
-abbrev pub enters : State → ℕ → ℕ → Transfer → Story
-enters a cause tval to = finishes a class.Trap
-    (record a { pc = to.pc; mode = to.mode; csrs = count to.stores true false }) cause tval false
-
--- a trap of this cause and value is the end of what comes to it
-abbrev pub traps : State → ℕ → ℕ → Story
-traps a cause tval = enters a cause tval (trap a.csrs a.pc a.mode cause tval)
-
--- an illegal instruction, of which the word is told
-abbrev pub traps_illegal : State → ℕ → Story
-traps_illegal a word = traps a illegal_instruction word
-
--- a return leads back to where a trap came from, after which a pulse is due
-abbrev pub returns : State → Transfer → Story
-returns a to = finishes a class.System
-    (record a { pc = to.pc; mode = to.mode; csrs = count to.stores true true }) 0 0 true
-
--- a jump to a misaligned address is an exception of the jump itself (Volume I, "Control Transfer Instructions")
-abbrev pub jumps : State → ℕ → ℕ → Story
-jumps a target rd = if is_multiple target 4 then ends a class.Jump target rd (wrap (a.pc + 4)) else traps a instruction_address_misaligned target
-
--- an end that goes on at the next instruction with a value for a register
-abbrev pub computes : State → Class → ℕ → ℕ → Story
-computes a class rd value = ends a class (wrap (a.pc + 4)) rd value
-
--- an end that goes on at the next instruction and writes no register
-abbrev pub passes : State → Class → Story
-passes a class = computes a class 0 0
+use Rattle.flex_base.specs.declared.translation.Kind.{Kind}
+use Rattle.flex_base.specs.declared.translation.Kind.TheVariants as kind
+use Rattle.flex_base.specs.declared.translation.Leaf.{Leaf}
 
 -- an address without its lowest bit
 abbrev pub even : ℕ → ℕ
@@ -112,15 +55,11 @@ branches a taken target = if taken then jumps a target 0 else passes a class.Jum
 abbrev pub extended : Bool → ℕ → ℕ → ℕ
 extended signed width value = if signed then sign_extend (8 * width) (low (8 * width) value) else value
 
--- the work at aligned bytes: in RAM the access that is given, elsewhere an access fault of this cause; devices come later
+-- the work at aligned bytes: in RAM the access that is given, elsewhere an access fault; devices come later
 abbrev pub at_place : Place → Story → Story → Story
 at_place place.Ram access fault = access
 at_place place.Device access fault = ComesLater
 at_place place.Nowhere access fault = fault
-
--- the end of a store-conditional, and of the hart's reservation with it
-abbrev pub concludes : State → ℕ → ℕ → Story
-concludes a rd result = computes (record a { reservation = None }) class.Atomic rd result
 
 -- Privileged instructions.
 
@@ -135,21 +74,25 @@ abbrev pub is_machine : Mode → Bool
 is_machine mode.M = true
 is_machine lower = false
 
+-- a write of satp that takes effect drops all translations, that of its own fetch included
+abbrev pub leaves_after : State → ℕ → ℕ → List Leaf
+leaves_after a number value = if turns_satp number value then [] else a.leaves
+
 -- a CSR instruction ends that writes this value, and gives the old one to its register
 abbrev pub closes_csr : State → ℕ → ℕ → ℕ → ℕ → Story
 closes_csr a number rd old value = finishes a class.Csr
-    (record a { pc = wrap (a.pc + 4); x = set_reg a.x rd old; csrs = count_but number (csrs_with a number value) })
+    (record a {
+      pc = wrap (a.pc + 4);
+      x = set_reg a.x rd old;
+      csrs = count_but number (csrs_with a number value);
+      leaves = leaves_after a number value;
+    })
     rd (told_of rd old) (makes_due number)
-
--- translation comes later
-abbrev pub puts_csr : State → ℕ → ℕ → ℕ → ℕ → Story
-puts_csr a number rd old value =
-    if turns_translation_on number value then ComesLater else closes_csr a number rd old value
 
 -- a CSR instruction has read the old value, or doesn't read
 abbrev pub updates_csr : State → CsrOp → ℕ → ℕ → ℕ → ℕ → Story
 updates_csr a does rd rs1 number old =
-    if writes_csr does rs1 then puts_csr a number rd old (csr_result does old (csr_operand does a.x rs1))
+    if writes_csr does rs1 then closes_csr a number rd old (csr_result does old (csr_operand does a.x rs1))
     else computes a class.Csr rd old
 
 -- a pulse tells the interrupt lines, which count from here on, or that the run is to stop
@@ -180,75 +123,72 @@ uses_csr a word does rd rs1 number =
     then (if reads_csr does rd then asks_csr a does rd rs1 number else updates_csr a does rd rs1 number 0)
     else traps_illegal a word
 
+-- SFENCE.VMA drops all translations, that of its own fetch included (Volume II, "Supervisor Memory-Management Fence
+-- Instruction")
+abbrev pub fences_memory : State → Story
+fences_memory a = passes (record a { leaves = [] }) class.System
+
 -- time goes on where the ends are a positive multiple of 64
 abbrev pub is_tick : State → Bool
 is_tick a = nat_lt 0 a.ends && is_multiple a.ends 64
 
--- what follows one reply
-abbrev pub after_one : Story → Reply → Story
-after_one (Says access next) reply = next reply
-after_one (Closes part after) reply = Closes part after
-after_one StaysOver reply = StaysOver
-after_one ComesLater reply = ComesLater
-
--- where the replies lead
-abbrev pub goes : Story → List Reply → Story
-goes s [] = s
-goes (Says access next) (reply ∷ replies) = goes (next reply) replies
-goes (Closes part after) (reply ∷ replies) = Closes part after
-goes StaysOver (reply ∷ replies) = StaysOver
-goes ComesLater (reply ∷ replies) = ComesLater
-
-abbrev pub want : Story → Want
-want (Says access next) = Asks access
-want (Closes part after) = Ends part after
-want StaysOver = IsOver
-want ComesLater = IsLater
-
 module _ (setup : Setup) where
-  -- an access of so many bytes tests its alignment and then its place (Volume I, "Load and Store Instructions";
-  -- misaligned accesses trap)
-  abbrev pub reaches : State → ℕ → ℕ → ℕ → ℕ → Story → Story
-  reaches a address width misaligned fault access =
-      if is_multiple address width
-      then at_place (place_of setup.harts setup.ram address width) access (traps a fault address)
-      else traps a misaligned address
+  -- an access of so many bytes tests its alignment, and then its address is translated (Volume I, "Load and Store
+  -- Instructions"; misaligned accesses trap)
+  abbrev pub reaches : State → Kind → ℕ → ℕ → (State → ℕ → Story) → Story
+  reaches a kind width va access =
+      if is_multiple va width then translates setup.ram a kind va access else traps a (misaligned kind) va
 
-  -- a load
-  abbrev pub loads : State → ℕ → Bool → ℕ → ℕ → Story
-  loads a width signed rd address = reaches a address width load_address_misaligned load_access_fault
+  -- a load at its physical address, which tests its place
+  abbrev pub loads_at : ℕ → Bool → ℕ → ℕ → State → ℕ → Story
+  loads_at width signed rd va a address = at_place (place_of setup.harts setup.ram address width)
       (Says (acc.Read address width) (λ reply. computes a class.Load rd (extended signed width reply.value)))
+      (traps a load_access_fault va)
+
+  abbrev pub loads : State → ℕ → Bool → ℕ → ℕ → Story
+  loads a width signed rd va = reaches a kind.Load width va (loads_at width signed rd va)
 
   -- a store; the value is cut to its width
-  abbrev pub stores : State → ℕ → ℕ → ℕ → Story
-  stores a width address value = reaches a address width store_address_misaligned store_access_fault
+  abbrev pub stores_at : ℕ → ℕ → ℕ → State → ℕ → Story
+  stores_at width value va a address = at_place (place_of setup.harts setup.ram address width)
       (Says (acc.Write address width (low (8 * width) value)) (λ reply. passes a class.Store))
+      (traps a store_access_fault va)
 
-  -- an atomic instruction tests its alignment and then its place, which is RAM alone (Volume I, "A")
-  abbrev pub reaches_ram : State → ℕ → ℕ → ℕ → ℕ → Story → Story
-  reaches_ram a address width misaligned fault access =
-      if is_multiple address width
-      then (if in_ram setup.ram address width then access else traps a fault address)
-      else traps a misaligned address
+  abbrev pub stores : State → ℕ → ℕ → ℕ → Story
+  stores a width va value = reaches a kind.Store width va (stores_at width value va)
+
+  -- an atomic instruction at its physical address has RAM alone as its place (Volume I, "A")
+  abbrev pub in_ram_at : State → Kind → ℕ → ℕ → ℕ → Story → Story
+  in_ram_at a kind width va address access =
+      if in_ram setup.ram address width then access else traps a (access_fault kind) va
 
   -- a load-reserved reserves the aligned 8 bytes (Volume I, "Load-Reserved/Store-Conditional Instructions")
-  abbrev pub loads_reserved : State → ℕ → ℕ → ℕ → Story
-  loads_reserved a width rd address = reaches_ram a address width load_address_misaligned load_access_fault
+  abbrev pub loads_reserved_at : ℕ → ℕ → ℕ → State → ℕ → Story
+  loads_reserved_at width rd va a address = in_ram_at a kind.Load width va address
       (Says (acc.Lr address width) (λ reply.
       computes (record a { reservation = Some (reservation_set address) }) class.Atomic rd (extended true width reply.value)))
 
+  abbrev pub loads_reserved : State → ℕ → ℕ → ℕ → Story
+  loads_reserved a width rd va = reaches a kind.Load width va (loads_reserved_at width rd va)
+
   -- a store-conditional makes its access within the hart's reservation alone; elsewhere it fails at once, with 1
-  abbrev pub stores_conditional : State → ℕ → ℕ → ℕ → ℕ → Story
-  stores_conditional a width rd address value = reaches_ram a address width store_address_misaligned store_access_fault
+  abbrev pub stores_conditional_at : ℕ → ℕ → ℕ → ℕ → State → ℕ → Story
+  stores_conditional_at width rd value va a address = in_ram_at a kind.Store width va address
       (if is_reserved a.reservation (reservation_set address)
       then Says (acc.Sc address width (low (8 * width) value)) (λ reply. concludes a rd reply.value)
       else concludes a rd 1)
 
+  abbrev pub stores_conditional : State → ℕ → ℕ → ℕ → ℕ → Story
+  stores_conditional a width rd va value = reaches a kind.Store width va (stores_conditional_at width rd value va)
+
   -- an atomic memory operation; the register gets what stood in memory (Volume I, "Atomic Memory Operations")
-  abbrev pub modifies : State → AmoOp → ℕ → ℕ → ℕ → ℕ → Story
-  modifies a does width rd address value = reaches_ram a address width store_address_misaligned store_access_fault
+  abbrev pub modifies_at : AmoOp → ℕ → ℕ → ℕ → ℕ → State → ℕ → Story
+  modifies_at does width rd value va a address = in_ram_at a kind.Store width va address
       (Says (acc.Amo does address width (low (8 * width) value)) (λ reply.
       computes a class.Atomic rd (extended true width reply.value)))
+
+  abbrev pub modifies : State → AmoOp → ℕ → ℕ → ℕ → ℕ → Story
+  modifies a does width rd va value = reaches a kind.Store width va (modifies_at does width rd value va)
 
   -- the work of a decoded instruction
   abbrev pub works : State → ℕ → Op → Story
@@ -274,14 +214,17 @@ module _ (setup : Setup) where
   works a word op.Mret = if is_machine a.mode then returns a (mret a.csrs) else traps_illegal a word
   works a word op.Sret = if supervises TSR a.csrs a.mode then returns a (sret a.csrs) else traps_illegal a word
   works a word op.Wfi = if supervises TW a.csrs a.mode then ComesLater else traps_illegal a word
-  works a word (op.SfenceVma rs1 rs2) = if supervises TVM a.csrs a.mode then ComesLater else traps_illegal a word
+  works a word (op.SfenceVma rs1 rs2) = if supervises TVM a.csrs a.mode then fences_memory a else traps_illegal a word
   works a word (op.Illegal whole) = traps_illegal a whole
 
-  -- the fetch; no address is translated
-  abbrev pub fetches : State → Story
-  fetches a = if in_ram setup.ram a.pc 4
-      then Says (acc.Fetch a.pc) (λ reply. works a reply.value (decoded reply.value))
+  -- the fetch at its physical address, and the work of the word
+  abbrev pub fetches_at : State → ℕ → Story
+  fetches_at a address = if in_ram setup.ram address 4
+      then Says (acc.Fetch address) (λ reply. works a reply.value (decoded reply.value))
       else traps a instruction_access_fault a.pc
+
+  abbrev pub fetches : State → Story
+  fetches a = translates setup.ram a kind.Fetch a.pc fetches_at
 
   -- an interrupt that can be taken is, before the instruction (Volume II, "Machine Interrupt Registers (mip and mie)")
   abbrev pub interrupted_by : State → Option ℕ → Story

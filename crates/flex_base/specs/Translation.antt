@@ -139,12 +139,25 @@ conditions kind mode sum mxr flags =
 abbrev pub permitted : Leaf → Kind → Mode → Bool → Bool → Bool
 permitted leaf kind mode sum mxr = list_all (λ (b : Bool). b) (conditions kind mode sum mxr leaf.flags)
 
+-- the physical address of a virtual one of this page
+abbrev pub address_in : Leaf → ℕ → ℕ
+address_in leaf va = 4096 * leaf.frame + va % 4096
+
 -- The leaves of a hart, from the first that it found to the last (this project's own).
 
 -- a page and a frame that there are
 pub record IsLeaf (leaf : Leaf) : Type 0 where
   pub page : leaf.page < 2 ^ 27
   pub frame : leaf.frame < 2 ^ 44
+
+-- where it is one
+abbrev pub IfLeaf : Option Leaf → Type 0
+IfLeaf None = Unit {0}
+IfLeaf (Some leaf) = IsLeaf leaf
+
+abbrev pub AreLeaves : List Leaf → Type 0
+AreLeaves [] = Unit {0}
+AreLeaves (leaf ∷ leaves) = IsLeaf leaf × AreLeaves leaves
 
 -- how many translations a hart keeps: one for each remainder of a page's number
 abbrev pub places : ℕ

@@ -3,7 +3,8 @@ use Rattle.std.specs.Prelude.{ℕ, Bool, true, false, ◌&&◌, nat_lt, if◌the
 use Rattle.std.specs.List.{list_all, range_with_len}
 use Rattle.flex_base.specs.Setup.{Setup}
 use Rattle.flex_base.specs.State.{State, start}
-use Rattle.flex_base.specs.Story.{Want, Asks, Ends, IsOver, Story, story, goes, want}
+use Rattle.flex_base.specs.StoryTree.{Want, Asks, Ends, IsOver, Story, goes, want}
+use Rattle.flex_base.specs.Story.{story}
 use Rattle.flex_base.specs.FlatMemory.{Done, is_ram_access, flat, reply_with}
 use Rattle.flex_base.specs.DevicesSoFar.{device_reply, stop_of}
 use Rattle.flex_base.specs.declared.access.Access.{Access}

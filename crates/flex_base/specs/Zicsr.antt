@@ -2,7 +2,7 @@
 use Rattle.std.specs.Prelude.{ℕ, Bool, true, not, ◌&&◌, ◌||◌, ◌==◌, List, [], ◌∷◌, is_some, unwrap_or, bit_and, bit_or}
 use Rattle.std.specs.List.{list_any}
 use Rattle.flex_base.specs.Word.{field}
-use Rattle.flex_base.specs.Csrs.{all_but, csr_read, csr_write}
+use Rattle.flex_base.specs.Csrs.{all_but, is_satp_mode, csr_read, csr_write}
 use Rattle.flex_base.specs.Traps.{count}
 use Rattle.flex_base.specs.State.{State, reg}
 use Rattle.flex_base.specs.declared.operation.CsrOp.{CsrOp}
@@ -102,6 +102,6 @@ interrupt_csrs =
 abbrev pub makes_due : ℕ → Bool
 makes_due number = list_any (λ n. number == n) interrupt_csrs
 
--- a write of satp that turns translation by Sv39 on
-abbrev pub turns_translation_on : ℕ → ℕ → Bool
-turns_translation_on number value = number == CSR_SATP && field 60 4 value == 8
+-- a write of satp that takes effect, which is one of a MODE that there is
+abbrev pub turns_satp : ℕ → ℕ → Bool
+turns_satp number value = number == CSR_SATP && is_satp_mode (field 60 4 value)

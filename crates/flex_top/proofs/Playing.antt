@@ -9,7 +9,7 @@ use Rattle.std.proofs.lemmas.List.Folds.{list_any-append, list_all-map}
 use Rattle.std.proofs.lemmas.List.Sums.{fold_push}
 use Rattle.flex_base.specs.Setup.{Setup}
 use Rattle.flex_base.specs.State.{State, start}
-use Rattle.flex_base.specs.Story.{Asks, Ends}
+use Rattle.flex_base.specs.StoryTree.{Asks, Ends}
 use Rattle.transplant_plan.specs.Assignment.{default_plan}
 use Rattle.flex_base.specs.FlatMemory.{Done, is_ram_access}
 use Rattle.flex_base.specs.Unsplit.{Machine, Made, Instruction, instruction_at, instruction_from, instruction_after, want_of, reply_to, step, make, makes, does, with_access, hart_numbers}

@@ -6,7 +6,9 @@ use Rattle.flex_base.specs.Setup.{Setup}
 use Rattle.flex_base.specs.State.{State}
 use Rattle.flex_base.specs.Forms.{HasForm}
 use Rattle.flex_base.specs.DevicesSoFar.{is_retire}
-use Rattle.flex_base.specs.Story.{Want, Asks, Ends, Story, Says, story, after_pulse, begins, interrupted_by, fetches, traps, is_tick, want, after_one}
+use Rattle.flex_base.specs.StoryTree.{Want, Asks, Ends, Story, Says, want, after_one}
+use Rattle.flex_base.specs.Ends.{traps}
+use Rattle.flex_base.specs.Story.{story, after_pulse, begins, interrupted_by, fetches, is_tick}
 use Rattle.flex_base.specs.Traps.{takeable}
 use Rattle.flex_base.specs.Unsplit.{Instruction}
 use Rattle.flex_base.specs.declared.access.Access.{Access}

@@ -4,7 +4,7 @@ use Rattle.flex_base.specs.Setup.{Setup}
 use Rattle.flex_base.specs.Csrs.{AreFit}
 use Rattle.flex_base.specs.Word.{wrap, is_multiple}
 use Rattle.flex_base.specs.State.{State, IsFit, IsReservation}
-use Rattle.flex_base.specs.Story.{Ends, Story, Says, Closes, StaysOver, ComesLater, want}
+use Rattle.flex_base.specs.StoryTree.{Ends, Story, Says, Closes, StaysOver, ComesLater, want}
 use Rattle.flex_base.specs.declared.class.Class.{Class}
 use Rattle.flex_base.specs.declared.event.EndPart.{EndPart}
 use Rattle.flex_base.specs.declared.hart.Mode.{Mode}

@@ -1,7 +1,7 @@
 -- What a hart wants, by what it is told that it needs.
 use Rattle.std.proofs.Common.{◌≡◌, false, refl, ap}
 use Rattle.flex_base.specs.State.{State}
-use Rattle.flex_base.specs.Story.{Want, Asks, Ends, IsOver, IsLater}
+use Rattle.flex_base.specs.StoryTree.{Want, Asks, Ends, IsOver, IsLater}
 use Rattle.flex_base.specs.Built.{is_built}
 use Rattle.flex_base.specs.declared.access.Access.{Access}
 use Rattle.flex_base.specs.declared.class.Class.{Class}

@@ -3,7 +3,7 @@ use Rattle.std.specs.Prelude.{◌≡◌, ℕ, true, Option}
 use Rattle.flex_base.specs.Setup.{Setup}
 use Rattle.flex_base.specs.State.{State}
 use Rattle.flex_base.specs.FlatMemory.{reservation_set, is_reserved}
-use Rattle.flex_base.specs.Story.{Want, Asks, Ends, IsOver, IsLater}
+use Rattle.flex_base.specs.StoryTree.{Want, Asks, Ends, IsOver, IsLater}
 use Rattle.flex_base.specs.Classes.{class_of_access}
 use Rattle.flex_base.specs.Forms.{IsPlaced}
 use Rattle.flex_base.specs.declared.access.Access.{Access}

@@ -7,7 +7,9 @@ use Rattle.flex_base.specs.State.{State, IsReservation}
 use Rattle.flex_base.specs.FlatMemory.{reservation_set}
 use Rattle.flex_base.specs.Csrs.{IsCause}
 use Rattle.flex_base.specs.Traps.{mret, sret}
-use Rattle.flex_base.specs.Story.{Story, Says, ComesLater, ends, traps, returns, computes, passes, concludes, asks_pending, asks_time, closes_csr, extended}
+use Rattle.flex_base.specs.StoryTree.{Story, Says, ComesLater}
+use Rattle.flex_base.specs.Ends.{ends, traps, returns, computes, passes, concludes}
+use Rattle.flex_base.specs.Story.{asks_pending, asks_time, closes_csr, extended}
 use Rattle.flex_base.specs.Forms.{IsPlaced}
 use Rattle.flex_base.specs.declared.access.Access.{Access}
 use Rattle.flex_base.specs.declared.access.Access.TheVariants as acc

@@ -2,7 +2,8 @@
 use Rattle.std.specs.Prelude.{◌≡◌, ℕ, ◌<◌, Bool, true, false, Option, fold}
 use Rattle.flex_base.specs.Setup.{Setup}
 use Rattle.flex_base.specs.State.{State, IsFit}
-use Rattle.flex_base.specs.Story.{Want, Asks, Ends, Story, Closes, StaysOver, story, goes, ask, fetches}
+use Rattle.flex_base.specs.StoryTree.{Want, Asks, Ends, Story, Closes, StaysOver, goes}
+use Rattle.flex_base.specs.Story.{story, ask, fetches}
 use Rattle.flex_base.specs.Reservations.{reserving, accesses_in}
 use Rattle.flex_base.specs.Unsplit.{Instruction}
 use Rattle.flex_base.specs.declared.access.Access.{Access}

@@ -1,6 +1,6 @@
 // The ends of instructions.
 ghost use Rattle.std.specs.Prelude.{◌<◌};
-ghost use Rattle.flex_base.specs.Story.{computes, passes};
+ghost use Rattle.flex_base.specs.Ends.{computes, passes};
 ghost use Rattle.flex_base.specs.declared.settings.Layout.{Layout};
 ghost use Rattle.hart_story.specs.Outcome.{EndsAs, IsSoundEnd, KeepsReservation};
 

@@ -1,5 +1,6 @@
 ghost use Rattle.std.specs.Prelude.{◌≡◌, ◌<◌};
-ghost use Rattle.flex_base.specs.Story.{jumps, branches, is_taken, even};
+ghost use Rattle.flex_base.specs.Ends.{jumps};
+ghost use Rattle.flex_base.specs.Story.{branches, is_taken, even};
 ghost use Rattle.flex_base.specs.declared.settings.Layout.{Layout};
 ghost use Rattle.hart_story.specs.Outcome.{ComesAs, IsSoundOutcome};
 

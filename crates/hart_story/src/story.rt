@@ -2,7 +2,8 @@ ghost use Rattle.std.specs.Prelude.{◌≡◌, ◌≢◌, ◌+◌, ◌-◌, ◌^
 ghost use Rattle.flex_base.specs.Setup.{Setup};
 ghost use Rattle.flex_base.specs.State.{State, IsFit};
 ghost use Rattle.flex_base.specs.Decoding.{decoded};
-ghost use Rattle.flex_base.specs.Story.{Ends, story, begins, fetches, after_pulse, after_csr_pulse, works, want, is_tick};
+ghost use Rattle.flex_base.specs.StoryTree.{Ends, want};
+ghost use Rattle.flex_base.specs.Story.{story, begins, fetches, after_pulse, after_csr_pulse, works, is_tick};
 ghost use Rattle.flex_base.specs.Forms.{HasForm};
 ghost use Rattle.flex_base.specs.DevicesSoFar.{is_retire};
 ghost use Rattle.flex_base.specs.Reservations.{IsOwn};

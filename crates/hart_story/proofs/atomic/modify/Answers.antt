@@ -1,7 +1,9 @@
 -- The access of an atomic operation, or its exceptions.
 use Rattle.std.proofs.Common.{true, ap, sym, ◌∙◌}
 use Rattle.flex_base.specs.Causes.{store_address_misaligned, store_access_fault}
-use Rattle.flex_base.specs.Story.{Says, computes, extended, reaches_ram}
+use Rattle.flex_base.specs.StoryTree.{Says}
+use Rattle.flex_base.specs.Ends.{computes}
+use Rattle.flex_base.specs.Story.{extended, reaches_ram}
 use Rattle.flex_base.specs.declared.access.Access.TheVariants as acc
 use Rattle.flex_base.specs.declared.class.Class.TheVariants as class
 use Rattle.hart_story.proofs.atomic.modify.Goals as goal

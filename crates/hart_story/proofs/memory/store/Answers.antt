@@ -1,7 +1,9 @@
 -- The access of a store, or its exceptions.
 use Rattle.std.proofs.Common.{ap, sym, ◌∙◌, arith}
 use Rattle.flex_base.specs.Causes.{store_address_misaligned, store_access_fault}
-use Rattle.flex_base.specs.Story.{Says, passes, reaches}
+use Rattle.flex_base.specs.StoryTree.{Says}
+use Rattle.flex_base.specs.Ends.{passes}
+use Rattle.flex_base.specs.Story.{reaches}
 use Rattle.flex_base.specs.declared.access.Access.TheVariants as acc
 use Rattle.flex_base.specs.declared.class.Class.TheVariants as class
 use Rattle.hart_story.proofs.memory.store.Goals as goal

@@ -1,7 +1,7 @@
 -- An instruction that ends where it begins, or after its pulse.
 use Rattle.std.proofs.Common.{ap, sym, ◌∙◌}
 use Rattle.flex_base.specs.State.{State}
-use Rattle.flex_base.specs.Story.{Ends, want}
+use Rattle.flex_base.specs.StoryTree.{Ends, want}
 use Rattle.hart_story.specs.Outcome.{outcome_of}
 use Rattle.hart_story.specs.Progress.{node}
 use Rattle.hart_story.proofs.Asking.{shows, node_wants, ending_begins}

@@ -3,7 +3,8 @@ use Rattle.std.proofs.Common.{◌<◌, ap, sym, subst, ◌∙◌, arith}
 use Rattle.flex_base.specs.Setup.{Setup}
 use Rattle.flex_base.specs.State.{State}
 use Rattle.flex_base.specs.Reservations.{IsOwn}
-use Rattle.flex_base.specs.Story.{Want, story, want}
+use Rattle.flex_base.specs.StoryTree.{Want, want}
+use Rattle.flex_base.specs.Story.{story}
 use Rattle.flex_base.specs.Unsplit.{Instruction}
 use Rattle.flex_base.specs.declared.event.EndPart.{EndPart}
 use Rattle.flex_base.proofs.OwnReservations.{story_reserves, ends_own}

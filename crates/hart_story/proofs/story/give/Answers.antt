@@ -2,7 +2,8 @@
 use Rattle.std.proofs.Common.{◌≡◌, ◌≢◌, true, false, ap, sym, subst, ◌∙◌, arith, refl}
 use Rattle.flex_base.specs.State.{State}
 use Rattle.flex_base.specs.Forms.{HasForm}
-use Rattle.flex_base.specs.Story.{Asks, StaysOver, want, works, after_pulse, after_one, updates_csr, is_tick}
+use Rattle.flex_base.specs.StoryTree.{Asks, StaysOver, want, after_one}
+use Rattle.flex_base.specs.Story.{works, after_pulse, updates_csr, is_tick}
 use Rattle.flex_base.specs.Decoding.{decoded}
 use Rattle.flex_base.specs.declared.access.Access.{Access}
 use Rattle.flex_base.specs.declared.access.Access.TheVariants as acc

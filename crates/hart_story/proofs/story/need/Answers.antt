@@ -1,7 +1,7 @@
 -- What is wanted follows from where the replies lead.
 use Rattle.std.proofs.Common.{ap, sym, subst, ◌∙◌}
 use Rattle.flex_base.specs.State.{State}
-use Rattle.flex_base.specs.Story.{want}
+use Rattle.flex_base.specs.StoryTree.{want}
 use Rattle.hart_story.specs.Need.{need_of}
 use Rattle.hart_story.specs.Progress.{node, IsSoundProgress}
 use Rattle.hart_story.specs.declared.progress.Progress.{Progress}

@@ -1,7 +1,7 @@
 -- What is needed is what the machine's hart wants; the player follows it.
 use Rattle.std.proofs.Common.{◌≡◌, ◌++◌, ◌∷◌, [], ◌||◌, Some, refl, ap, sym, subst, ◌∙◌, ◌<◌, length, set, arith}
 use Rattle.flex_base.specs.Unsplit.{Machine, instruction_at, instruction_from, want_of, reply_to, does}
-use Rattle.flex_base.specs.Story.{want}
+use Rattle.flex_base.specs.StoryTree.{want}
 use Rattle.flex_base.specs.Built.{is_built}
 use Rattle.flex_base.specs.Classes.{class_of_access}
 use Rattle.transplant_plan.specs.Assignment.{default_plan}
