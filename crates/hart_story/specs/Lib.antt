@@ -2,4 +2,8 @@ pub mod StandsFor
 pub mod Operands
 pub mod Outcome
 pub mod Need
+pub mod Found
+pub mod Memory
+pub mod Stage
+pub mod Translated
 pub mod Progress

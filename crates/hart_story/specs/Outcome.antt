@@ -1,21 +1,15 @@
 -- What an instruction comes to.
-use Rattle.std.specs.Prelude.{◌≡◌, ℕ, ◌<◌, Bool, true, false, Option, Some}
+use Rattle.std.specs.Prelude.{◌≡◌, ℕ, ◌<◌, Bool, true, false, Option}
 use Rattle.flex_base.specs.Word.{is_multiple}
 use Rattle.flex_base.specs.Limits.{mebibyte}
 use Rattle.flex_base.specs.Setup.{Setup}
 use Rattle.flex_base.specs.State.{State, IsReservation}
-use Rattle.flex_base.specs.FlatMemory.{reservation_set}
 use Rattle.flex_base.specs.Csrs.{IsCause}
 use Rattle.flex_base.specs.Traps.{mret, sret}
-use Rattle.flex_base.specs.StoryTree.{Story, Says, ComesLater}
-use Rattle.flex_base.specs.Ends.{ends, traps, returns, computes, passes, concludes}
-use Rattle.flex_base.specs.Story.{asks_pending, asks_time, closes_csr, extended}
-use Rattle.flex_base.specs.Forms.{IsPlaced}
-use Rattle.flex_base.specs.declared.access.Access.{Access}
-use Rattle.flex_base.specs.declared.access.Access.TheVariants as acc
-use Rattle.flex_base.specs.declared.class.Class.TheVariants as class
+use Rattle.flex_base.specs.StoryTree.{Story, ComesLater}
+use Rattle.flex_base.specs.Ends.{ends, traps, returns}
+use Rattle.flex_base.specs.Story.{asks_pending, asks_time, closes_csr, fences_memory}
 use Rattle.flex_base.specs.declared.settings.Layout.{Layout}
-use Rattle.hart_story.specs.Need.{IsReservedFor}
 use Rattle.hart_story.specs.Operands.{IsRegister}
 use Rattle.hart_story.specs.StandsFor.{Shows}
 use Rattle.hart_story.specs.declared.hart.Hart.{Hart}
@@ -34,49 +28,25 @@ pub record IsOf (setup : Setup) (layout : Layout) (budget : ℕ) : Type 0 where
 abbrev pub end_of : State → End → Story
 end_of a end = ends (record a { reservation = end.reservation }) end.class end.next end.rd end.value
 
--- what follows the reply to an access of memory
-abbrev pub closing : State → Access → Bool → ℕ → ℕ → Story
-closing a (acc.Read address width) signed rd value = computes a class.Load rd (extended signed width value)
-closing a (acc.Write address width written) signed rd value = passes a class.Store
-closing a (acc.Lr address width) signed rd value =
-    computes (record a { reservation = Some (reservation_set address) }) class.Atomic rd (extended true width value)
-closing a (acc.Sc address width written) signed rd value = concludes a rd value
-closing a (acc.Amo does address width operand) signed rd value = computes a class.Atomic rd (extended true width value)
-closing a other signed rd value = ComesLater
-
 -- what an instruction comes to
 abbrev pub outcome_of : State → Outcome → Story
 outcome_of a (outcome.End end) = end_of a end
-outcome_of a (outcome.Ask access signed rd) = Says access (λ reply. closing a access signed rd reply.value)
 outcome_of a (outcome.Trap cause tval) = traps a cause tval
 outcome_of a (outcome.AskPending does rd rs1 number) = asks_pending a does rd rs1 number
 outcome_of a (outcome.AskTime does rd rs1 number) = asks_time a does rd rs1 number
 outcome_of a (outcome.WriteCsr number rd old value) = closes_csr a number rd old value
 outcome_of a outcome.Mret = returns a (mret a.csrs)
 outcome_of a outcome.Sret = returns a (sret a.csrs)
+outcome_of a outcome.FenceMemory = fences_memory a
 outcome_of a outcome.Unbuilt = ComesLater
 
--- in each run of this layout, and each state that the hart shows, this story is what the instruction comes to
-abbrev pub ComesTo : Layout → Hart → (Setup → State → Story) → Outcome → Type 0
-ComesTo layout hart story made =
-    (setup : Setup) (budget : ℕ) (a : State) → IsOf setup layout budget → Shows hart a → story setup a ≡ outcome_of a made
-
--- the same of a story that depends on the state alone
+-- in each state that the hart shows this story is what the instruction comes to
 abbrev pub ComesAs : Hart → (State → Story) → Outcome → Type 0
 ComesAs hart story made = (a : State) → Shows hart a → story a ≡ outcome_of a made
 
 -- and of an end
 abbrev pub EndsAs : Hart → (State → Story) → End → Type 0
 EndsAs hart story end = (a : State) → Shows hart a → story a ≡ end_of a end
-
--- an access that a decoded instruction makes of memory
-abbrev pub IsOfMemory : Access → Type 0
-IsOfMemory (acc.Read address width) = Unit {0}
-IsOfMemory (acc.Write address width value) = Unit {0}
-IsOfMemory (acc.Lr address width) = Unit {0}
-IsOfMemory (acc.Sc address width value) = Unit {0}
-IsOfMemory (acc.Amo does address width value) = Unit {0}
-IsOfMemory other = ⊥
 
 -- this is a reservation in RAM where the hart's own is one
 abbrev pub KeepsReservation : Layout → Hart → Option ℕ → Type 0
@@ -89,17 +59,9 @@ pub record IsSoundEnd (layout : Layout) (hart : Hart) (end : End) : Type 0 where
   pub aligned : is_multiple hart.regs.pc 4 ≡ true → is_multiple end.next 4 ≡ true
   pub reserved : KeepsReservation layout hart end.reservation
 
--- an access that an instruction comes to stands where its kind may stand, a store-conditional within the hart's reservation
-pub record IsSoundAsk (layout : Layout) (hart : Hart) (access : Access) (rd : ℕ) : Type 0 where
-  pub of_memory : IsOfMemory access
-  pub placed : IsPlaced layout.harts layout.ram access
-  pub register : rd < 32
-  pub reserved : IsReservedFor hart.regs.reservation access
-
 -- what an instruction comes to is sound: a trap has a cause that a register can hold
 abbrev pub IsSoundOutcome : Layout → Hart → Outcome → Type 0
 IsSoundOutcome layout hart (outcome.End end) = IsSoundEnd layout hart end
-IsSoundOutcome layout hart (outcome.Ask access signed rd) = IsSoundAsk layout hart access rd
 IsSoundOutcome layout hart (outcome.Trap cause tval) = IsCause cause
 IsSoundOutcome layout hart (outcome.AskPending does rd rs1 number) = IsRegister rd × IsRegister rs1
 IsSoundOutcome layout hart (outcome.AskTime does rd rs1 number) = IsRegister rd × IsRegister rs1
@@ -113,4 +75,5 @@ is_end (outcome.Trap cause tval) = true
 is_end (outcome.WriteCsr number rd old value) = true
 is_end outcome.Mret = true
 is_end outcome.Sret = true
+is_end outcome.FenceMemory = true
 is_end other = false

@@ -1,27 +1,44 @@
 -- How far a hart in the code has come in the story of its instruction.
-use Rattle.std.specs.Prelude.{◌≡◌, ℕ, ◌<◌, Bool, true, false, Option, fold}
+use Rattle.std.specs.Prelude.{◌≡◌, ℕ, ◌<◌, Bool, Option, fold}
 use Rattle.flex_base.specs.Setup.{Setup}
 use Rattle.flex_base.specs.State.{State, IsFit}
-use Rattle.flex_base.specs.StoryTree.{Want, Asks, Ends, Story, Closes, StaysOver, goes}
-use Rattle.flex_base.specs.Story.{story, ask, fetches}
+use Rattle.flex_base.specs.StoryTree.{Want, Asks, Ends, Story, Closes, goes}
+use Rattle.flex_base.specs.Story.{story, ask}
+use Rattle.flex_base.specs.Translation.{AreLeaves}
 use Rattle.flex_base.specs.Reservations.{reserving, accesses_in}
 use Rattle.flex_base.specs.Unsplit.{Instruction}
 use Rattle.flex_base.specs.declared.access.Access.{Access}
 use Rattle.flex_base.specs.declared.event.EndPart.{EndPart}
 use Rattle.flex_base.specs.declared.settings.Layout.{Layout}
 use Rattle.hart_story.specs.StandsFor.{StandsFor}
-use Rattle.hart_story.specs.Outcome.{IsOf, outcome_of, IsSoundOutcome}
+use Rattle.hart_story.specs.Found.{leaves_of, state_at}
+use Rattle.hart_story.specs.Outcome.{IsOf}
+use Rattle.hart_story.specs.Stage.{stage_of, IsSoundStage, left_at, is_over_at}
 use Rattle.hart_story.specs.declared.hart.Hart.{Hart}
-use Rattle.hart_story.specs.declared.outcome.Outcome.TheVariants as outcome
+use Rattle.hart_story.specs.declared.found.Found.{Found}
 use Rattle.hart_story.specs.declared.progress.Progress.{Progress}
-use Rattle.hart_story.specs.declared.progress.Progress.TheVariants as progress
+use Rattle.hart_story.specs.declared.stage.Stage.{Stage}
+use Rattle.hart_story.specs.declared.stage.Stage.TheVariants as stage
+
+-- nothing has happened yet
+abbrev pub begun : Progress
+begun = record {
+  stage = stage.Begun;
+  lines = 0;
+  found = record {
+    first = record { page = 0; frame = 0; flags = 0 };
+    second = record { page = 0; frame = 0; flags = 0 };
+    count = 0;
+  };
+}
 
 -- where the hart is in the story of an instruction that began in this state
+abbrev pub node_at : Setup → State → ℕ → Found → Stage → Story
+node_at setup a lines found stage.Begun = story setup a
+node_at setup a lines found here = stage_of setup (state_at a lines found) here
+
 abbrev pub node : Setup → State → Progress → Story
-node setup a progress.Begun = story setup a
-node setup a (progress.Pulsed lines) = fetches setup (record a { lines = lines })
-node setup a (progress.Working lines made) = outcome_of (record a { lines = lines }) made
-node setup a progress.Over = StaysOver
+node setup a progress = node_at setup a progress.lines progress.found progress.stage
 
 -- the replies lead to where the hart is
 abbrev pub Reached : Setup → Instruction → Progress → Type 0
@@ -29,23 +46,16 @@ Reached setup i progress = goes (story setup i.state) i.replies ≡ node setup i
 
 -- the hart has nothing left to do
 abbrev pub is_done : Progress → Bool
-is_done progress.Over = true
-is_done other = false
+is_done progress = is_over_at progress.stage
 
--- how many accesses may still come before the end
+-- how many accesses may still come before the end, at most
 abbrev pub left : Progress → ℕ
-left progress.Begun = 3
-left (progress.Pulsed lines) = 2
-left (progress.Working lines (outcome.Ask access signed rd)) = 1
-left (progress.Working lines (outcome.AskPending does rd rs1 number)) = 1
-left (progress.Working lines (outcome.AskTime does rd rs1 number)) = 1
-left (progress.Working lines other) = 0
-left progress.Over = 0
+left progress = left_at progress.stage
 
--- what the instruction comes to so far is sound
-abbrev pub IsSoundProgress : Layout → Hart → Progress → Type 0
-IsSoundProgress layout hart (progress.Working lines made) = IsSoundOutcome layout hart made
-IsSoundProgress layout hart other = Unit {0}
+-- what the instruction has come to so far is sound
+pub record IsSoundProgress (layout : Layout) (hart : Hart) (progress : Progress) : Type 0 where
+  pub stage : IsSoundStage layout hart progress.found.count progress.stage
+  pub found : AreLeaves (leaves_of progress.found)
 
 -- the hart and its progress stand for this instruction in flight, in a run of this layout and budget
 pub record IsIn (setup : Setup) (i : Instruction) (hart : Hart) (progress : Progress) (layout : Layout) (budget : ℕ) : Type 0 where

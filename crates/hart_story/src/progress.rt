@@ -1,27 +1,36 @@
-use crate::outcome::Outcome;
+use crate::found::Found;
+use crate::stage::Stage;
 use flex_base::{Access, Class};
 
 /// How far an instruction has come.
 #[derive(Clone, Copy, Debug, PartialEq, Eq)]
-pub enum Progress {
-    /// Nothing has happened yet.
-    Begun,
-    /// The pulse that was due has happened, and told these interrupt lines.
-    Pulsed(u64),
-    /// The word was fetched, with these interrupt lines, and the instruction now comes to this.
-    Working(u64, Outcome),
-    /// The hart has nothing left to do: it has spent its budget, or was told to stop.
-    Over,
+pub struct Progress {
+    pub(crate) stage: Stage,
+    // The interrupt lines that the last pulse told, from then on.
+    pub(crate) lines: u64,
+    pub(crate) found: Found,
 }
 
 impl Progress {
     ghost use Rattle.std.specs.Prelude.{◌≡◌};
+    ghost use Rattle.hart_story.specs.Progress.{begun, is_done};
 
     /// The beginning of an instruction.
     pub fn begin() -> Progress
-        ensures { result ≡ Progress.Begun }
+        ensures { result ≡ begun }
     {
-        Progress::Begun
+        Progress {
+            stage: Stage::Begun,
+            lines: 0,
+            found: Found::none(),
+        }
+    }
+
+    /// Whether the hart has nothing left to do: it has spent its budget, or was told to stop.
+    pub fn is_over(&self) -> bool
+        ensures { result ≡ is_done self.now }
+    {
+        matches!(self.stage, Stage::Over)
     }
 }
 
