@@ -1,5 +1,5 @@
 -- A walk in the code and the list of entries.
-use Rattle.std.proofs.Common.{◌≡◌, ◌⊎◌, inl, inr, ℕ, ◌+◌, List, [], ◌∷◌, ◌++◌, refl, ap, sym, ◌∙◌, append-nil, append_assoc, arith}
+use Rattle.std.proofs.Common.{◌≡◌, ◌⊎◌, inl, inr, ℕ, List, [], ◌∷◌, ◌++◌, refl, ap, sym, ◌∙◌, append-nil, append_assoc, arith}
 use Rattle.flex_base.specs.Translation.{walk}
 use Rattle.flex_base.specs.declared.translation.WalkStep.{WalkStep}
 use Rattle.flex_base.specs.declared.translation.WalkStep.TheVariants as step
