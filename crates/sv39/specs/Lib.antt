@@ -1,1 +1,2 @@
 pub mod IsAfter
+pub mod Stage

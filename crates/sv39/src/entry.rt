@@ -2,7 +2,7 @@
 ghost use Rattle.std.specs.Prelude.{◌≡◌, ◌==◌, ◌%◌, ◌^◌, ◌<◌, not, ◌&&◌, ◌||◌};
 ghost use Rattle.flex_base.specs.Word.{field};
 ghost use Rattle.flex_base.specs.Translation.{is_valid, is_readable, is_writable, is_user, is_accessed, is_dirty, is_leaf, frame_of, pages_at, leaf_at};
-ghost use Rattle.sv39.specs.IsAfter.{number_of};
+ghost use Rattle.sv39.specs.Stage.{number_of};
 
 use crate::level::Level;
 use crate::word::{field, is_set};

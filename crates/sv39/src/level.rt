@@ -10,7 +10,7 @@ pub(crate) enum Level {
 impl Level {
     ghost use Rattle.std.specs.Prelude.{◌≡◌, ◌+◌, ◌<◌, ◌≤◌, ◌↔◌, IsNone, IfSome};
     ghost use Rattle.flex_base.specs.Translation.{pages_at};
-    ghost use Rattle.sv39.specs.IsAfter.{number_of};
+    ghost use Rattle.sv39.specs.Stage.{number_of};
 
     // The manual's number of the level.
     pub(crate) fn number(self) -> u32

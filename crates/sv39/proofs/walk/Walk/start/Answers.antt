@@ -1,14 +1,9 @@
-use Rattle.std.proofs.Common.{sym, ap, ◌∙◌}
-use Rattle.flex_base.specs.Translation.{walk_from}
-use Rattle.sv39.proofs.Walks.{IsAfter-root, IsAfter-refused}
+use Rattle.std.proofs.Common.{rules}
+use Rattle.sv39.proofs.Walks.{IsAfter-start}
 use Rattle.sv39.proofs.walk.Walk.start.Goals as goal
 
-pub returns-then-is_canonical : goal.returns-then-is_canonical
-returns-then-is_canonical c =
-    IsAfter-root c.reads.result c.args.satp c.args.va (sym c.is_canonical.ensures ∙ c.if-is_canonical.true)
-    (λ rest. ap (λ n. walk_from 2 n c.args.va rest) (sym c.field.ensures) ∙ c.reads.ensures rest)
+pub returns-then-is_canonical-clause-after : goal.returns-then-is_canonical-clause-after
+returns-then-is_canonical-clause-after c = IsAfter-start c.reads.result c.args.satp c.args.va (search rules)
 
-pub returns-else-is_canonical : goal.returns-else-is_canonical
-returns-else-is_canonical c =
-    IsAfter-refused c.ends.result c.args.satp c.args.va (sym c.is_canonical.ensures ∙ c.if-is_canonical.false)
-    c.ends.ensures
+pub returns-else-is_canonical-clause-after : goal.returns-else-is_canonical-clause-after
+returns-else-is_canonical-clause-after c = IsAfter-start c.faults.result c.args.satp c.args.va (search rules)
