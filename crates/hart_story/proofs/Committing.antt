@@ -1,13 +1,18 @@
 -- The hart after an end stands for the state after it, which is fit.
-use Rattle.std.proofs.Common.{◌≡◌, ℕ, ◌+◌, ◌<◌, Bool, true, ◌||◌, List, Option, ap, sym, subst, ◌∙◌, refl, arith}
+use Rattle.std.proofs.Common.{◌≡◌, ℕ, ◌+◌, ◌<◌, Bool, true, ◌||◌, false, if◌then◌else◌, List, [], Option, ap, sym, subst, ◌∙◌, refl, arith}
 use Rattle.flex_base.specs.Setup.{Setup}
 use Rattle.flex_base.specs.Csrs.{AreFit}
 use Rattle.flex_base.specs.Word.{wrap, is_multiple}
+use Rattle.flex_base.specs.Translation.{AreLeaves}
 use Rattle.flex_base.specs.State.{State, IsFit, IsReservation}
 use Rattle.flex_base.specs.StoryTree.{Ends, Story, Says, Closes, StaysOver, ComesLater, want}
+use Rattle.flex_base.specs.Story.{leaves_after}
+use Rattle.flex_base.specs.Zicsr.{turns_satp}
+use Rattle.flex_base.specs.declared.translation.Leaf.{Leaf}
 use Rattle.flex_base.specs.declared.class.Class.{Class}
 use Rattle.flex_base.specs.declared.event.EndPart.{EndPart}
 use Rattle.flex_base.specs.declared.hart.Mode.{Mode}
+use Rattle.hart_state.specs.IsLatest.{IsLatest}
 use Rattle.hart_state.specs.declared.regs.Regs.{Regs}
 use Rattle.hart_story.specs.Outcome.{outcome_of, is_end}
 use Rattle.hart_story.specs.Progress.{CommitsTo, EndsWith}
@@ -35,9 +40,9 @@ regs_left pc x mode reservation before lines due = record {
 pub ended : (setup : Setup) (a after : State) (hart : Hart) (pc : ℕ) (x : List ℕ) (mode : Mode) (reservation : Option ℕ) (before : ℕ) (due : Bool)
     → hart.regs ≡ regs_left pc x mode reservation before after.lines due → pc ≡ after.pc → x ≡ after.x → mode ≡ after.mode
     → reservation ≡ after.reservation → before ≡ a.ends → hart.csrs ≡ after.csrs → a.ends < setup.budget → is_multiple pc 4 ≡ true
-    → IsReservation setup.ram after.reservation → AreFit setup.harts hart.csrs
+    → IsReservation setup.ram after.reservation → AreFit setup.harts hart.csrs → IsLatest hart.kept after.leaves → AreLeaves after.leaves
     → StandsFor hart (left_by a after due) × IsFit setup.harts setup.ram setup.budget (left_by a after due)
-ended setup a after hart pc x mode reservation before due regs pc_is x_is mode_is reservation_is ends_is csrs_is unspent aligned reserved fit =
+ended setup a after hart pc x mode reservation before due regs pc_is x_is mode_is reservation_is ends_is csrs_is unspent aligned reserved fit kept leaves =
     let Fit : List ℕ → Type 0 = λ s. AreFit setup.harts s in (
       record {
         regs = record {
@@ -50,18 +55,27 @@ ended setup a after hart pc x mode reservation before due regs pc_is x_is mode_i
           due = ap (λ (r : Regs). r.due) regs ∙ ap (λ (n : ℕ). due || is_multiple (n + 1) 64) ends_is;
         };
         csrs = csrs_is;
+        kept = kept;
       },
       record {
         aligned = sym (ap (λ (n : ℕ). is_multiple n 4) pc_is) ∙ aligned;
         within = omega (arith, unspent);
         reserved = reserved;
         csrs = subst Fit csrs_is fit;
+        leaves = leaves;
       },
     )
 
 -- the next instruction
 pub next_aligned : (pc : ℕ) → is_multiple pc 4 ≡ true → is_multiple (wrap (pc + 4)) 4 ≡ true
 next_aligned pc aligned = grind arith
+
+leaves_by : (b : Bool) (leaves : List Leaf) → AreLeaves leaves → AreLeaves (if b then [] else leaves)
+leaves_by true leaves are = tt
+leaves_by false leaves are = are
+
+pub leaves_after_are : (a : State) (number value : ℕ) → AreLeaves a.leaves → AreLeaves (leaves_after a number value)
+leaves_after_are a number value are = leaves_by (turns_satp number value) a.leaves are
 
 -- what is told of an end, by its parts
 pub part_is : (class : Class) (pc pc_of next next_of first second second_of : ℕ) → pc ≡ pc_of → next ≡ next_of → second ≡ second_of
@@ -74,13 +88,13 @@ part_is class pc pc_of next next_of first second second_of one two three =
 -- an instruction that is at its end comes to one
 pub comes_to_end : (a : State) (o : Outcome) (part : EndPart) (after : State) → want (outcome_of a o) ≡ Ends part after → is_end o ≡ true
 comes_to_end a (outcome.End end) part after e = refl
-comes_to_end a (outcome.Ask access signed rd) part after e = absurd cc
 comes_to_end a (outcome.Trap cause tval) part after e = refl
 comes_to_end a (outcome.AskPending does rd rs1 number) part after e = absurd cc
 comes_to_end a (outcome.AskTime does rd rs1 number) part after e = absurd cc
 comes_to_end a (outcome.WriteCsr number rd old value) part after e = refl
 comes_to_end a outcome.Mret part after e = refl
 comes_to_end a outcome.Sret part after e = refl
+comes_to_end a outcome.FenceMemory part after e = refl
 comes_to_end a outcome.Unbuilt part after e = absurd cc
 
 -- a story that closes so ends so

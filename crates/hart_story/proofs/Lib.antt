@@ -1,5 +1,3 @@
-pub mod Asking
-pub mod Beginning
 pub mod Needing
 pub mod Operands
 pub mod Reserving

@@ -1,13 +1,14 @@
 -- What a load, a store or an atomic instruction is in the story.
-use Rattle.std.specs.Prelude.{◌≡◌, ℕ, ◌*◌, ◌<◌, Bool, true, Some}
+use Rattle.std.specs.Prelude.{◌≡◌, ℕ, ◌*◌, ◌<◌, Bool, true, if◌then◌else◌, Some}
 use Rattle.flex_base.specs.Word.{low, is_multiple}
 use Rattle.flex_base.specs.Setup.{Setup}
 use Rattle.flex_base.specs.State.{State}
-use Rattle.flex_base.specs.FlatMemory.{reservation_set}
+use Rattle.flex_base.specs.Place.{in_ram, place_of}
+use Rattle.flex_base.specs.FlatMemory.{reservation_set, is_reserved}
 use Rattle.flex_base.specs.Forms.{IsWidth, IsAtomicWidth}
 use Rattle.flex_base.specs.StoryTree.{Story, Says}
 use Rattle.flex_base.specs.Ends.{computes, passes, concludes}
-use Rattle.flex_base.specs.Story.{loads_at, stores_at, loads_reserved_at, stores_conditional_at, modifies_at, extended}
+use Rattle.flex_base.specs.Story.{loads_at, stores_at, loads_reserved_at, stores_conditional_at, modifies_at, at_place, extended}
 use Rattle.flex_base.specs.declared.access.Access.{Access}
 use Rattle.flex_base.specs.declared.access.Access.TheVariants as acc
 use Rattle.flex_base.specs.declared.class.Class.TheVariants as class
@@ -62,6 +63,19 @@ closing w = closing_by w.op w
 -- it asks for its access at this physical address
 abbrev pub asking : MemoryWork → State → ℕ → Story
 asking w a address = Says (access_of w address) (λ reply. closing w a address reply.value)
+
+-- at its physical address, by its access and its exception: a load and a store have any place, an atomic instruction RAM alone
+-- (and a store-conditional the hart's reservation)
+abbrev pub placing_by : MemoryOp → MemoryWork → Setup → State → ℕ → Story → Story → Story
+placing_by memory.Load w setup a address access fault =
+    at_place (place_of setup.harts setup.ram address w.width) access fault
+placing_by memory.Store w setup a address access fault =
+    at_place (place_of setup.harts setup.ram address w.width) access fault
+placing_by memory.StoreConditional w setup a address access fault =
+    if in_ram setup.ram address w.width
+    then (if is_reserved a.reservation (reservation_set address) then access else concludes a w.rd 1)
+    else fault
+placing_by other w setup a address access fault = if in_ram setup.ram address w.width then access else fault
 
 -- a width that it can have
 abbrev pub HasWidth : MemoryOp → ℕ → Type 0

@@ -1,5 +1,5 @@
 -- How far an instruction has come, and what it has to do from there on.
-use Rattle.std.specs.Prelude.{◌≡◌, ℕ, ◌+◌, ◌<◌, ◌≤◌, Bool, true, false}
+use Rattle.std.specs.Prelude.{◌≡◌, ℕ, ◌+◌, ◌≤◌, Bool, true, false, []}
 use Rattle.flex_base.specs.Setup.{Setup}
 use Rattle.flex_base.specs.State.{State}
 use Rattle.flex_base.specs.Decoding.{decoded}
@@ -21,6 +21,7 @@ use Rattle.hart_story.specs.Need.{IsReservedFor}
 use Rattle.hart_story.specs.Outcome.{IsOf, outcome_of, IsSoundOutcome}
 use Rattle.hart_story.specs.declared.found.Found.{Found}
 use Rattle.hart_story.specs.declared.hart.Hart.{Hart}
+use Rattle.hart_story.specs.declared.memory_work.MemoryWork.{MemoryWork}
 use Rattle.hart_story.specs.declared.outcome.Outcome.TheVariants as outcome
 use Rattle.hart_story.specs.declared.stage.Stage.{Stage}
 use Rattle.hart_story.specs.declared.stage.Stage.TheVariants as stage

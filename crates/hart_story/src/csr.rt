@@ -1,13 +1,13 @@
 // CSR instructions (Volume I, "Zicsr").
-ghost use Rattle.std.specs.Prelude.{◌≡◌, ◌<◌, ℕ};
+ghost use Rattle.std.specs.Prelude.{◌≡◌, ◌<◌};
 ghost use Rattle.flex_base.specs.State.{State};
-ghost use Rattle.flex_base.specs.Zicsr.{reads_csr, writes_csr, csr_operand, csr_result, may_use_csr, is_pending_csr, csr_value, makes_due, turns_translation_on};
+ghost use Rattle.flex_base.specs.Zicsr.{reads_csr, writes_csr, csr_operand, csr_result, may_use_csr, is_pending_csr, csr_value, makes_due, turns_satp};
 ghost use Rattle.flex_base.specs.Story.{uses_csr, updates_csr};
 ghost use Rattle.flex_base.specs.declared.settings.Layout.{Layout};
 ghost use Rattle.hart_story.specs.StandsFor.{Shows};
 ghost use Rattle.hart_story.specs.Outcome.{ComesAs, IsSoundOutcome};
-ghost use Rattle.hart_story.specs.Progress.{left};
-ghost use Rattle.hart_story.specs.declared.progress.Progress.TheVariants as Progress;
+ghost use Rattle.hart_story.specs.Stage.{left_at};
+ghost use Rattle.hart_story.specs.declared.stage.Stage.TheVariants as Stage;
 
 use crate::ends::end_with;
 use crate::hart::{Hart, read};
@@ -38,7 +38,9 @@ pub(crate) const CSR_MINSTRET: u16 = 0xb02;
 
 const CSR_TIME: u16 = 0xc01;
 
-// The MODE of satp that translates by Sv39.
+// The MODEs of satp: none, and Sv39.
+const BARE: u64 = 0;
+
 const SV39: u64 = 8;
 
 // A CSR instruction, which is tested whole before anything happens.
@@ -79,20 +81,16 @@ pub(crate) fn update_csr(hart: &Hart, op: CsrOp, rd: u8, rs1: u8, number: u16, o
     requires rs1 { rs1 < 32 }
     ensures works { ComesAs hart.now (λ a. updates_csr a op rd rs1 number old) result }
     ensures sound { (layout : Layout) → IsSoundOutcome layout hart.now result }
-    ensures last { (lines : ℕ) → left (Progress.Working lines result) ≡ 0 }
+    ensures last { left_at (Stage.Working result) ≡ 0 }
 {
     if !writes(op, rs1) {
         return Outcome::End(end_with(hart, Class::Csr, rd, old));
-    }
-    let value = result_of(op, old, operand(hart, op, rs1));
-    if turns_translation_on(number, value) {
-        return Outcome::Unbuilt;
     }
     Outcome::WriteCsr {
         number,
         rd,
         old,
-        value,
+        value: result_of(op, old, operand(hart, op, rs1)),
     }
 }
 
@@ -171,8 +169,9 @@ fn is_pending_csr(number: u16) -> bool
     number == CSR_MIP || number == CSR_SIP
 }
 
-fn turns_translation_on(number: u16, value: u64) -> bool
-    ensures { result ≡ turns_translation_on number value }
+// Whether a write of the register is one of satp that takes effect, with a MODE that there is.
+pub(crate) fn turns_satp(number: u16, value: u64) -> bool
+    ensures { result ≡ turns_satp number value }
 {
-    number == CSR_SATP && value >> 60 == SV39
+    number == CSR_SATP && matches!(value >> 60, BARE | SV39)
 }

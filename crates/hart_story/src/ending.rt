@@ -5,16 +5,19 @@ ghost use Rattle.flex_base.specs.State.{State};
 ghost use Rattle.flex_base.specs.Traps.{mret, sret, count};
 ghost use Rattle.flex_base.specs.Word.{is_multiple};
 ghost use Rattle.flex_base.specs.Ends.{traps, returns, told_of};
-ghost use Rattle.flex_base.specs.Story.{closes_csr};
+ghost use Rattle.flex_base.specs.Story.{closes_csr, fences_memory, leaves_after};
 ghost use Rattle.flex_base.specs.declared.class.Class.TheVariants as class;
 ghost use Rattle.flex_base.specs.declared.settings.Layout.{Layout};
+ghost use Rattle.hart_state.specs.IsLatest.{IsLatest};
 ghost use Rattle.hart_story.specs.Outcome.{outcome_of, end_of, is_end, IsSoundEnd, IsSoundOutcome};
 ghost use Rattle.hart_story.specs.Progress.{Commits};
 
-use crate::csr::{CSR_MCYCLE, CSR_MINSTRET, makes_due};
+use crate::csr::{CSR_MCYCLE, CSR_MINSTRET, makes_due, turns_satp};
+use crate::ends::end_without;
 use crate::hart::Hart;
 use crate::outcome::{End, Outcome};
 use flex_base::{Class, EndPart, Mode};
+use hart_state::Kept;
 
 // The results of an instruction that has come to its end become the hart's, with these interrupt
 // lines.
@@ -37,6 +40,7 @@ pub(crate) fn commit(hart: &mut Hart, lines: u64, outcome: &Outcome) -> EndPart
         } => commit_csr(hart, lines, number, rd, old, value),
         Outcome::Mret => commit_mret(hart, lines),
         Outcome::Sret => commit_sret(hart, lines),
+        Outcome::FenceMemory => commit_fence(hart, lines),
         _ => unreachable!(),
     }
 }
@@ -99,6 +103,7 @@ fn commit_csr(hart: &mut Hart, lines: u64, number: u16, rd: u8, old: u64, value:
     write_csr(hart, number, value);
     hart.csrs
         .count(number != CSR_MCYCLE, number != CSR_MINSTRET);
+    keep_after(&mut hart.kept, number, value);
     hart.regs.pc = next;
     hart.regs.set(rd, old);
     close(hart, lines, makes_due(number));
@@ -131,6 +136,18 @@ fn commit_sret(hart: &mut Hart, lines: u64) -> EndPart
     commit_return(hart, lines, next, mode)
 }
 
+// No translation is kept any more, that of the fetch of this instruction included.
+fn commit_fence(hart: &mut Hart, lines: u64) -> EndPart
+    requires unspent { hart.old.regs.ends < 2 ^ 64 - 1 }
+    ensures commits { (layout : Layout) (budget : ℕ)
+        → Commits layout budget hart.old lines (λ a. fences_memory a) result hart.new }
+    ensures count { hart.new.regs.ends ≡ hart.old.regs.ends + 1 }
+{
+    hart.kept.clear();
+    let end = end_without(hart, Class::System);
+    commit_end(hart, lines, &end)
+}
+
 // A return ends by which the hart has its CSRs already. A pulse is due after it.
 fn commit_return(hart: &mut Hart, lines: u64, next: u64, mode: Mode) -> EndPart
     requires unspent { hart.old.regs.ends < 2 ^ 64 - 1 }
@@ -138,6 +155,7 @@ fn commit_return(hart: &mut Hart, lines: u64, next: u64, mode: Mode) -> EndPart
     ensures regs { hart.new.regs ≡ record hart.old.regs
         { pc = next; mode = mode; lines = lines; ends = hart.old.regs.ends + 1; due = true } }
     ensures csrs { hart.new.csrs ≡ count hart.old.csrs true true }
+    ensures kept { hart.new.kept ≡ hart.old.kept }
     ensures fit { (harts : ℕ) → AreFit harts hart.old.csrs → AreFit harts hart.new.csrs }
 {
     let pc = hart.regs.pc;
@@ -159,11 +177,21 @@ fn write_csr(hart: &mut Hart, number: u16, value: u64)
     ensures csrs { hart.new.csrs
         ≡ unwrap_or (csr_write hart.old.csrs number hart.old.regs.mode value) hart.old.csrs }
     ensures regs { hart.new.regs ≡ hart.old.regs }
+    ensures kept { hart.new.kept ≡ hart.old.kept }
     ensures fit { (harts : ℕ) → AreFit harts hart.old.csrs → AreFit harts hart.new.csrs }
 {
     match hart.csrs.write(number, hart.regs.mode, value) {
         Ok(()) => {}
         Err(_) => {}
+    }
+}
+
+// A write of satp that takes effect drops all translations.
+fn keep_after(kept: &mut Kept, number: u16, value: u64)
+    ensures { (a : State) → IsLatest kept.old a.leaves → IsLatest kept.new (leaves_after a number value) }
+{
+    if turns_satp(number, value) {
+        kept.clear();
     }
 }
 
@@ -173,6 +201,7 @@ fn close(hart: &mut Hart, lines: u64, due: bool)
     ensures regs { hart.new.regs ≡ record hart.old.regs
         { lines = lines; ends = hart.old.regs.ends + 1; due = due || is_multiple (hart.old.regs.ends + 1) 64 } }
     ensures csrs { hart.new.csrs ≡ hart.old.csrs }
+    ensures kept { hart.new.kept ≡ hart.old.kept }
 {
     hart.regs.lines = lines;
     hart.regs.ends += 1;

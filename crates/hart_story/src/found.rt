@@ -1,9 +1,7 @@
-ghost use Rattle.std.specs.Prelude.{◌≡◌, ◌<◌, ◌+◌, List, ◌++◌, [], ◌∷◌};
-ghost use Rattle.flex_base.specs.Translation.{kept, AreLeaves, IsLeaf};
-ghost use Rattle.flex_base.specs.declared.translation.Leaf.{Leaf};
-ghost use Rattle.hart_state.specs.IsLatest.{IsLatest};
-ghost use Rattle.hart_story.specs.Found.{leaves_of};
+ghost use Rattle.std.specs.Prelude.{◌≡◌, ◌%◌, ◌==◌, Some};
+ghost use Rattle.flex_base.specs.Translation.{of_page};
 
+use crate::translation::Translated;
 use flex_base::Leaf;
 use hart_state::Kept;
 
@@ -22,11 +20,13 @@ const NO_LEAF: Leaf = Leaf {
 };
 
 impl Found {
-    ghost use Rattle.std.specs.Prelude.{◌≡◌, ◌<◌, ◌+◌, List, ◌++◌, [], ◌∷◌};
+    ghost use Rattle.std.specs.Prelude.{◌≡◌, ◌≢◌, ◌<◌, ◌≤◌, ◌+◌, ℕ, List, ◌++◌, [], ◌∷◌};
     ghost use Rattle.flex_base.specs.Translation.{kept, AreLeaves, IsLeaf};
     ghost use Rattle.flex_base.specs.declared.translation.Leaf.{Leaf};
     ghost use Rattle.hart_state.specs.IsLatest.{IsLatest};
-    ghost use Rattle.hart_story.specs.Found.{leaves_of};
+    ghost use Rattle.flex_base.specs.State.{State};
+    ghost use Rattle.hart_story.specs.Found.{leaves_of, state_at};
+    ghost use Rattle.hart_story.specs.Translated.{state_after, entries_in, IsSoundTranslated};
 
     pub(crate) fn none() -> Found
         ensures { result ≡ record {
@@ -60,6 +60,22 @@ impl Found {
             self.second = leaf;
         }
         self.count += 1;
+    }
+
+    // A leaf more where a walk has found one.
+    pub(crate) fn note(&mut self, came: &Translated)
+        requires { self.old.count < 2 }
+        ensures leaves { (a : State) (lines : ℕ)
+            → state_at a lines self.new ≡ state_after (state_at a lines self.old) came.now }
+        ensures sound { (ram va : ℕ) → IsSoundTranslated ram va came.now → AreLeaves (leaves_of self.old)
+            → AreLeaves (leaves_of self.new) }
+        ensures count { self.new.count ≤ self.old.count + 1 }
+        ensures same { entries_in came.now ≢ 0 → self.new ≡ self.old }
+    {
+        match *came {
+            Translated::Found(_, leaf) => self.add(leaf),
+            _ => {}
+        }
     }
 
     // The leaf that is kept for a page, by the hart or as one of these.

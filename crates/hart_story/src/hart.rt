@@ -4,13 +4,15 @@ ghost use Rattle.hart_story.specs.StandsFor.{Shows};
 
 use csr_traps::Csrs;
 use flex_base::HartId;
-use hart_state::Regs;
+use hart_state::{Kept, Regs};
 
 /// A hart at the start of an instruction.
 #[derive(Clone, Copy, Debug, PartialEq, Eq)]
 pub struct Hart {
     pub regs: Regs,
     pub csrs: Csrs,
+    /// The translations that it keeps.
+    pub kept: Kept,
 }
 
 impl Hart {
@@ -25,6 +27,7 @@ impl Hart {
         Hart {
             regs: Regs::start(hart, entry),
             csrs: Csrs::new(hart),
+            kept: Kept::new(),
         }
     }
 }

@@ -2,24 +2,26 @@
 //! and resumed with the reply; `need`, `give` and `finish` go along the story of the instruction.
 #![tactic(auto)]
 
-mod atomic;
 mod causes;
 mod csr;
 mod ending;
 mod ends;
+mod found;
 mod hart;
 mod jump;
 mod memory;
+mod memory_work;
 mod outcome;
 mod progress;
 mod reply;
+mod stage;
 mod story;
 mod system;
+mod translation;
 mod width;
 mod work;
 
 pub use hart::Hart;
-pub use outcome::{End, Outcome};
 pub use progress::{Need, Progress};
 pub use story::{finish, give, need};
 

@@ -1,17 +1,10 @@
-use flex_base::{Access, Class, CsrOp};
+use flex_base::{Class, CsrOp};
 
 /// What an instruction comes to, as far as the replies tell it.
 #[derive(Clone, Copy, Debug, PartialEq, Eq)]
 pub enum Outcome {
     /// Its end.
     End(End),
-    /// An access of memory. The reply goes to the register `rd`, a load's by its sign where `signed`
-    /// says so; a store has the register 0.
-    Ask {
-        access: Access,
-        signed: bool,
-        rd: u8,
-    },
     /// A trap, which is its end.
     Trap {
         cause: u64,
@@ -43,6 +36,8 @@ pub enum Outcome {
     Mret,
     /// The end of a return from a trap in S.
     Sret,
+    /// The end of a fence after which no translation is kept.
+    FenceMemory,
     /// What isn't built yet.
     Unbuilt,
 }

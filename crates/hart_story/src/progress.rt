@@ -13,7 +13,7 @@ pub struct Progress {
 
 impl Progress {
     ghost use Rattle.std.specs.Prelude.{◌≡◌};
-    ghost use Rattle.hart_story.specs.Progress.{begun, is_done};
+    ghost use Rattle.hart_story.specs.Progress.{begun, has_begun, is_done};
 
     /// The beginning of an instruction.
     pub fn begin() -> Progress
@@ -24,6 +24,12 @@ impl Progress {
             lines: 0,
             found: Found::none(),
         }
+    }
+
+    pub(crate) fn has_begun(&self) -> bool
+        ensures { result ≡ has_begun self.now.stage }
+    {
+        !matches!(self.stage, Stage::Begun)
     }
 
     /// Whether the hart has nothing left to do: it has spent its budget, or was told to stop.

@@ -1,37 +1,42 @@
 ghost use Rattle.flex_base.specs.declared.settings.Layout.{Layout};
-ghost use Rattle.hart_story.specs.Outcome.{closing, EndsAs, IsSoundEnd, IsSoundAsk};
+ghost use Rattle.hart_story.specs.Memory.{closing, IsMemoryWork};
+ghost use Rattle.hart_story.specs.Outcome.{EndsAs, IsSoundEnd};
+ghost use Rattle.hart_story.specs.Stage.{IsSoundAccess};
 
-use crate::atomic::end_conditional;
 use crate::ends::{end_reserving, end_with, end_without};
 use crate::hart::Hart;
+use crate::memory::end_conditional;
+use crate::memory_work::{MemoryOp, MemoryWork};
 use crate::outcome::End;
 use crate::width::extended;
-use flex_base::{Access, Class, reservation_set};
+use flex_base::{Class, reservation_set};
 
-// The end of an instruction whose access was replied with this value.
-pub(crate) fn end_by_reply(hart: &Hart, access: Access, signed: bool, rd: u8, value: u64) -> End
-    requires { (layout : Layout) × IsSoundAsk layout hart.now access rd }
-    ensures works { EndsAs hart.now (λ a. closing a access signed rd value) result }
-    ensures sound { (layout : Layout) → IsSoundAsk layout hart.now access rd → IsSoundEnd layout hart.now result }
+// The end of an instruction whose access at this physical address was replied with this value.
+pub(crate) fn end_by_reply(hart: &Hart, work: &MemoryWork, address: u64, value: u64) -> End
+    requires { IsMemoryWork work.now }
+    ensures works { EndsAs hart.now (λ a. closing work.now a address value) result }
+    ensures sound { (layout : Layout) → IsSoundAccess layout hart.now address work.now
+        → IsSoundEnd layout hart.now result }
 {
-    match access {
-        Access::Read { width, .. } => {
-            end_with(hart, Class::Load, rd, extended(signed, width, value))
+    match work.op {
+        MemoryOp::Load => {
+            let value = extended(work.signed, work.width, value);
+            end_with(hart, Class::Load, work.rd, value)
         }
-        Access::Write { .. } => end_without(hart, Class::Store),
-        Access::Lr { address, width } => {
+        MemoryOp::Store => end_without(hart, Class::Store),
+        MemoryOp::LoadReserved => {
             end_reserving(
                 hart,
                 Class::Atomic,
-                rd,
-                extended(true, width, value),
+                work.rd,
+                extended(true, work.width, value),
                 Some(reservation_set(address)),
             )
         }
-        Access::Sc { .. } => end_conditional(hart, rd, value),
-        Access::Amo { width, .. } => {
-            end_with(hart, Class::Atomic, rd, extended(true, width, value))
+        MemoryOp::StoreConditional => end_conditional(hart, work.rd, value),
+        MemoryOp::Modify(_) => {
+            let value = extended(true, work.width, value);
+            end_with(hart, Class::Atomic, work.rd, value)
         }
-        _ => unreachable!(),
     }
 }

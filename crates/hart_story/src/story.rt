@@ -1,31 +1,47 @@
-ghost use Rattle.std.specs.Prelude.{◌≡◌, ◌≢◌, ◌+◌, ◌-◌, ◌^◌, ◌<◌, ◌||◌, [], ◌∷◌, ◌++◌, ℕ, false};
+ghost use Rattle.std.specs.Prelude.{◌≡◌, ◌≢◌, ◌+◌, ◌<◌, ◌≤◌, ◌||◌, ◌&&◌, [], ◌∷◌, ◌++◌, ℕ, false, true};
 ghost use Rattle.flex_base.specs.Setup.{Setup};
 ghost use Rattle.flex_base.specs.State.{State, IsFit};
-ghost use Rattle.flex_base.specs.Decoding.{decoded};
-ghost use Rattle.flex_base.specs.StoryTree.{Ends, want};
-ghost use Rattle.flex_base.specs.Story.{story, begins, fetches, after_pulse, after_csr_pulse, works, is_tick};
+ghost use Rattle.flex_base.specs.Reservations.{IsOwn};
+ghost use Rattle.flex_base.specs.Translation.{AreLeaves};
+ghost use Rattle.flex_base.specs.Word.{is_multiple};
+ghost use Rattle.flex_base.specs.StoryTree.{Asks, Story, after_one, want};
+ghost use Rattle.flex_base.specs.Story.{story, begins, fetches, fetches_at, after_pulse, is_tick};
 ghost use Rattle.flex_base.specs.Forms.{HasForm};
 ghost use Rattle.flex_base.specs.DevicesSoFar.{is_retire};
-ghost use Rattle.flex_base.specs.Reservations.{IsOwn};
 ghost use Rattle.flex_base.specs.Unsplit.{Instruction};
 ghost use Rattle.flex_base.specs.declared.access.Access.{Access};
 ghost use Rattle.flex_base.specs.declared.event.EndPart.{EndPart};
 ghost use Rattle.flex_base.specs.declared.settings.Layout.{Layout};
+ghost use Rattle.flex_base.specs.declared.translation.Kind.{Kind};
+ghost use Rattle.flex_base.specs.declared.translation.Kind.TheVariants as kind;
+ghost use Rattle.sv39.specs.IsAfter.{entries_left};
 ghost use Rattle.hart_story.specs.declared.hart.Hart.{Hart};
+ghost use Rattle.hart_story.specs.declared.outcome.Outcome.TheVariants as Outcome;
+ghost use Rattle.hart_story.specs.declared.stage.Stage.TheVariants as Stage;
+ghost use Rattle.hart_story.specs.Found.{leaves_of, state_at};
+ghost use Rattle.hart_story.specs.Memory.{asking, IsMemoryWork};
 ghost use Rattle.hart_story.specs.Need.{need_of, AsksPlaced, NeedsReserved};
-ghost use Rattle.hart_story.specs.Outcome.{IsOf, outcome_of, IsSoundOutcome};
-ghost use Rattle.hart_story.specs.Progress.{node, left, is_done, IsSoundProgress, IsIn, want_in, IsAsking, IsEnding, EndsWith, own_in};
+ghost use Rattle.hart_story.specs.Outcome.{IsOf, outcome_of, is_end, IsSoundOutcome};
+ghost use Rattle.hart_story.specs.Progress.{node, left, is_done, has_begun, IsSoundProgress, IsHere, IsIn, want_in, IsAsking, IsEnding, EndsWith, own_in};
 ghost use Rattle.hart_story.specs.StandsFor.{StandsFor, Shows};
+ghost use Rattle.hart_story.specs.Stage.{stage_of, walking, left_at, is_over_at, tells_stop, IsReading, IsSoundAccess, IsSoundStage};
+ghost use Rattle.hart_story.specs.Translated.{translated_of, state_after, entries_in, fetch_left, IsSoundTranslated};
 
 use crate::causes::INSTRUCTION_ACCESS_FAULT;
 use crate::csr::{csr_value, update_csr};
 use crate::ending::commit;
+use crate::found::Found;
 use crate::hart::Hart;
+use crate::memory::{access_of, access_stage, class_of, is_in_ram, kind_of};
+use crate::memory_work::MemoryWork;
 use crate::outcome::Outcome;
 use crate::progress::{Need, Progress};
 use crate::reply::end_by_reply;
+use crate::stage::Stage;
+use crate::translation::{Translated, arrive, translate};
 use crate::work::work;
-use flex_base::{Access, Class, CsrOp, EndPart, Layout, Place, Reply, access_class};
+use flex_base::{Access, Class, EndPart, Kind, Layout, Reply};
+use sv39::{Walk, WalkStep};
 
 /// What the hart does next, with its class.
 pub fn need(hart: &Hart, progress: &Progress, layout: &Layout, budget: u64) -> Need
@@ -35,13 +51,16 @@ pub fn need(hart: &Hart, progress: &Progress, layout: &Layout, budget: u64) -> N
         → AsksPlaced setup result }
     ensures reserved { (setup : Setup) (i : Instruction) → IsIn setup i hart.now progress.now layout.now budget
         → NeedsReserved i.state result }
-    ensures over { result ≡ Need.Over → progress.now ≡ Progress.Over }
+    ensures over { result ≡ Need.Over → is_done progress.now ≡ true }
 {
-    match *progress {
-        Progress::Begun => first_need(hart, layout, budget),
-        Progress::Pulsed(_) => fetch_need(hart, layout),
-        Progress::Working(_, outcome) => outcome_need(&outcome),
-        Progress::Over => Need::Over,
+    match progress.stage {
+        Stage::Begun => first_need(hart, layout, budget),
+        Stage::FetchWalk(walk) => walk_need(&walk),
+        Stage::Fetch(address) => Need::Ask(Access::Fetch { address }, Class::Fetch),
+        Stage::AccessWalk(walk, _) => walk_need(&walk),
+        Stage::Access(address, work) => access_need(&work, address),
+        Stage::Working(outcome) => outcome_need(&outcome),
+        Stage::Over => Need::Over,
     }
 }
 
@@ -57,44 +76,22 @@ pub fn give(hart: &Hart, progress: &mut Progress, layout: &Layout, budget: u64, 
         → IsIn setup i hart.now progress.old layout.now budget → IsAsking setup i access → HasForm access reply
         → is_done progress.new ≡ (is_retire access || reply.stop) }
 {
-    *progress = match *progress {
-        Progress::Begun => {
-            if hart.regs.ends == budget {
-                Progress::Over
-            } else if hart.regs.due {
-                after_pulse(hart, reply)
-            } else {
-                after_fetch(hart, layout, hart.regs.lines, reply)
-            }
+    if !progress.has_begun() {
+        if hart.regs.ends == budget {
+            progress.stage = Stage::Over;
+            return;
         }
-        Progress::Pulsed(lines) => after_fetch(hart, layout, lines, reply),
-        Progress::Working(lines, outcome) => match outcome {
-            Outcome::Ask { access, signed, rd } => {
-                let end = end_by_reply(hart, access, signed, rd, reply.value);
-                Progress::Working(lines, Outcome::End(end))
-            }
-            Outcome::AskPending {
-                op,
-                rd,
-                rs1,
-                number,
-            } => after_csr_pulse(hart, op, rd, rs1, number, reply),
-            Outcome::AskTime {
-                op,
-                rd,
-                rs1,
-                number,
-            } => {
-                let old = csr_value(hart, number, 0, reply.value);
-                Progress::Working(lines, update_csr(hart, op, rd, rs1, number, old))
-            }
-            _ => unreachable!(),
-        },
-        Progress::Over => unreachable!(),
-    };
+        if hart.regs.due {
+            after_pulse(hart, progress, layout, reply);
+            return;
+        }
+        begin(hart, progress, layout, hart.regs.lines);
+    }
+    go_on(hart, progress, layout, reply);
 }
 
-/// Ends the instruction: its results, `pc` and the counts become the hart's.
+/// Ends the instruction: its results, `pc`, the counts and what its walks have found become the
+/// hart's.
 pub fn finish(hart: &mut Hart, progress: Progress, layout: &Layout, budget: u64) -> EndPart
     requires { (setup : Setup) × (i : Instruction) × (part : EndPart) × (after : State)
         × IsIn setup i hart.old progress layout.now budget × IsEnding setup i part after }
@@ -107,67 +104,114 @@ pub fn finish(hart: &mut Hart, progress: Progress, layout: &Layout, budget: u64)
         → IsOwn (own_in setup i) hart.new.regs.reservation }
     ensures count { hart.new.regs.ends ≡ hart.old.regs.ends + 1 }
 {
-    let Ending { lines, outcome } = end_of_story(hart, progress);
-    commit(hart, lines, &outcome)
+    let ending = at_end(hart, progress, layout);
+    ending.found.keep_in(&mut hart.kept);
+    commit(hart, ending.lines, &ending.outcome)
 }
 
-// The interrupt lines and the outcome of an instruction that is at its end.
+// The end of an instruction: its outcome, the interrupt lines by then, and what its walks have
+// found.
+#[derive(Clone, Copy)]
 struct Ending {
     lines: u64,
+    found: Found,
     outcome: Outcome,
 }
 
-// An instruction that ends at its beginning is interrupted, or its word doesn't lie in RAM; after the
-// pulse interrupts were looked at.
-fn end_of_story(hart: &Hart, progress: Progress) -> Ending
-    requires { is_done progress ≡ false }
-    ensures node { (setup : Setup) (i : Instruction) (part : EndPart) (after : State) (layout : Layout) (budget : ℕ)
-        → IsIn setup i hart.now progress layout budget → IsEnding setup i part after
-        → node setup i.state progress ≡ outcome_of (record i.state { lines = result.lines }) result.outcome }
-    ensures sound { (layout : Layout) → IsSoundProgress layout hart.now progress
-        → IsSoundOutcome layout hart.now result.outcome }
+// An instruction may end where it begins: an interrupt is taken, or the fetch is an exception.
+fn at_end(hart: &Hart, progress: Progress, layout: &Layout) -> Ending
+    requires { (setup : Setup) × (i : Instruction) × (part : EndPart) × (after : State) × (budget : ℕ)
+        × IsIn setup i hart.now progress layout.now budget × IsEnding setup i part after }
+    ensures node { (setup : Setup) (i : Instruction) (part : EndPart) (after : State) (budget : ℕ)
+        → IsIn setup i hart.now progress layout.now budget → IsEnding setup i part after
+        → node setup i.state progress ≡ outcome_of (state_at i.state result.lines result.found) result.outcome }
+    ensures sound { IsSoundOutcome layout.now hart.now result.outcome }
+    ensures found { AreLeaves (leaves_of result.found) }
+    ensures end { is_end result.outcome ≡ true }
 {
-    match progress {
-        Progress::Begun => Ending {
-            lines: hart.regs.lines,
-            outcome: begin_ending(hart),
+    let mut progress = progress;
+    if !progress.has_begun() {
+        begin(hart, &mut progress, layout, hart.regs.lines);
+    }
+    match progress.stage {
+        Stage::Working(outcome) => Ending {
+            lines: progress.lines,
+            found: progress.found,
+            outcome,
         },
-        Progress::Pulsed(lines) => Ending {
-            lines,
-            outcome: fetch_fault(hart),
-        },
-        Progress::Working(lines, outcome) => Ending { lines, outcome },
-        Progress::Over => unreachable!(),
+        _ => unreachable!(),
     }
 }
 
-fn begin_ending(hart: &Hart) -> Outcome
-    ensures interrupted { (setup : Setup) (a : State) (part : EndPart) (after : State) → StandsFor hart.now a
-        → want (begins setup a) ≡ Ends part after → begins setup a ≡ outcome_of a result }
-    ensures sound { (layout : Layout) → IsSoundOutcome layout hart.now result }
+// After its pulse, if it makes one, the instruction begins with these interrupt lines: an interrupt
+// that can be taken is, and else the word is fetched.
+fn begin(hart: &Hart, progress: &mut Progress, layout: &Layout, lines: u64)
+    ensures node { (setup : Setup) (budget : ℕ) (a : State) → IsOf setup layout.now budget → StandsFor hart.now a
+        → IsFit setup.harts setup.ram setup.budget a
+        → begins setup (record a { lines = lines }) ≡ node setup a progress.new }
+    ensures sound { is_multiple hart.now.regs.pc 4 ≡ true → IsSoundProgress layout.now hart.now progress.new }
+    ensures nearer { left progress.new < 12 }
+    ensures begun { has_begun progress.new.stage ≡ true }
+    ensures goes_on { is_done progress.new ≡ false }
 {
-    match hart.csrs.takeable(hart.regs.lines, hart.regs.mode) {
-        Some(cause) => Outcome::Trap { cause, tval: 0 },
-        None => fetch_fault(hart),
+    progress.lines = lines;
+    progress.found.clear();
+    match hart.csrs.takeable(lines, hart.regs.mode) {
+        Some(cause) => progress.stage = trap(cause, 0),
+        None => {
+            let came = translate(hart, layout, &progress.found, Kind::Fetch, hart.regs.pc);
+            progress.stage = fetch_stage(hart, layout, &came);
+        }
     }
 }
 
-// The word at pc doesn't lie in RAM.
-fn fetch_fault(hart: &Hart) -> Outcome
-    ensures fault { (setup : Setup) (a : State) (part : EndPart) (after : State) → Shows hart.now a
-        → want (fetches setup a) ≡ Ends part after → fetches setup a ≡ outcome_of a result }
-    ensures sound { (layout : Layout) → IsSoundOutcome layout hart.now result }
+// The fetch by what the translation of pc has come to.
+fn fetch_stage(hart: &Hart, layout: &Layout, came: &Translated) -> Stage
+    ensures goes { (setup : Setup) (budget : ℕ) (a : State) → IsOf setup layout.now budget → Shows hart.now a
+        → translated_of setup.ram a kind.Fetch a.pc (fetches_at setup) came.now
+            ≡ stage_of setup (state_after a came.now) result }
+    ensures sound { (count : ℕ) → is_multiple hart.now.regs.pc 4 ≡ true
+        → IsSoundTranslated layout.now.ram hart.now.regs.pc came.now
+        → (entries_in came.now ≢ 0 → count ≡ 0) → count ≤ 1 → IsSoundStage layout.now hart.now count result }
+    ensures nearer { left_at result ≤ fetch_left came.now }
+    ensures begun { has_begun result ≡ true }
+    ensures goes_on { is_over_at result ≡ false }
 {
-    Outcome::Trap {
-        cause: INSTRUCTION_ACCESS_FAULT,
-        tval: hart.regs.pc,
+    match *came {
+        Translated::Walks(walk) => Stage::FetchWalk(walk),
+        Translated::To(address) => fetch_at(hart, layout, address),
+        Translated::Found(address, _) => fetch_at(hart, layout, address),
+        Translated::Fails(cause) => trap(cause, hart.regs.pc),
     }
+}
+
+// The fetch at its physical address, which lies in RAM or is an exception.
+fn fetch_at(hart: &Hart, layout: &Layout, address: u64) -> Stage
+    ensures fetches { (setup : Setup) (budget : ℕ) (a : State) → IsOf setup layout.now budget → Shows hart.now a
+        → fetches_at setup a address ≡ stage_of setup a result }
+    ensures sound { (count : ℕ) → is_multiple address 4 ≡ true → count ≤ 1
+        → IsSoundStage layout.now hart.now count result }
+    ensures nearer { left_at result ≤ 6 }
+    ensures begun { has_begun result ≡ true }
+    ensures goes_on { is_over_at result ≡ false }
+{
+    if is_in_ram(layout, address, 4) {
+        Stage::Fetch(address)
+    } else {
+        trap(INSTRUCTION_ACCESS_FAULT, hart.regs.pc)
+    }
+}
+
+fn trap(cause: u64, tval: u64) -> Stage
+    ensures { result ≡ Stage.Working (Outcome.Trap cause tval) }
+{
+    Stage::Working(Outcome::Trap { cause, tval })
 }
 
 // A hart that has spent its budget retires, also where a pulse is due.
 fn first_need(hart: &Hart, layout: &Layout, budget: u64) -> Need
     ensures told { (setup : Setup) (a : State) → IsOf setup layout.now budget → StandsFor hart.now a
-        → result ≡ need_of (want (story setup a)) }
+        → IsFit setup.harts setup.ram setup.budget a → result ≡ need_of (want (story setup a)) }
     ensures placed { (setup : Setup) (a : State) → IsOf setup layout.now budget → StandsFor hart.now a
         → IsFit setup.harts setup.ram setup.budget a → AsksPlaced setup result }
     ensures reserved { (a : State) → NeedsReserved a result }
@@ -186,7 +230,7 @@ fn first_need(hart: &Hart, layout: &Layout, budget: u64) -> Need
 // An interrupt that can be taken is.
 fn begin_need(hart: &Hart, layout: &Layout) -> Need
     ensures told { (setup : Setup) (budget : ℕ) (a : State) → IsOf setup layout.now budget → StandsFor hart.now a
-        → result ≡ need_of (want (begins setup a)) }
+        → IsFit setup.harts setup.ram setup.budget a → result ≡ need_of (want (begins setup a)) }
     ensures placed { (setup : Setup) (budget : ℕ) (a : State) → IsOf setup layout.now budget → StandsFor hart.now a
         → IsFit setup.harts setup.ram setup.budget a → AsksPlaced setup result }
     ensures reserved { (a : State) → NeedsReserved a result }
@@ -205,24 +249,62 @@ fn is_tick(hart: &Hart) -> bool
     hart.regs.ends != 0 && hart.regs.ends % 64 == 0
 }
 
-// The fetch, which lies in RAM or is an exception.
+// The fetch, as far as its translation comes without a read of memory.
 fn fetch_need(hart: &Hart, layout: &Layout) -> Need
-    ensures told { (setup : Setup) (budget : ℕ) (a : State) → IsOf setup layout.now budget → Shows hart.now a
-        → result ≡ need_of (want (fetches setup a)) }
-    ensures placed { (setup : Setup) (budget : ℕ) (a : State) → IsOf setup layout.now budget → Shows hart.now a
+    ensures told { (setup : Setup) (budget : ℕ) (a : State) → IsOf setup layout.now budget → StandsFor hart.now a
+        → IsFit setup.harts setup.ram setup.budget a → result ≡ need_of (want (fetches setup a)) }
+    ensures placed { (setup : Setup) (budget : ℕ) (a : State) → IsOf setup layout.now budget → StandsFor hart.now a
         → IsFit setup.harts setup.ram setup.budget a → AsksPlaced setup result }
     ensures reserved { (a : State) → NeedsReserved a result }
     ensures goes_on { result ≢ Need.Over }
 {
-    match layout.place(hart.regs.pc, 4) {
-        Place::Ram => Need::Ask(
-            Access::Fetch {
-                address: hart.regs.pc,
-            },
-            Class::Fetch,
-        ),
+    let came = translate(hart, layout, &Found::none(), Kind::Fetch, hart.regs.pc);
+    match came {
+        Translated::Walks(walk) => walk_need(&walk),
+        Translated::To(address) => fetch_need_at(layout, address),
+        Translated::Found(address, _) => fetch_need_at(layout, address),
+        Translated::Fails(_) => Need::Finish(Class::Trap),
+    }
+}
+
+fn fetch_need_at(layout: &Layout, address: u64) -> Need
+    ensures told { (setup : Setup) (budget : ℕ) (a : State) → IsOf setup layout.now budget
+        → result ≡ need_of (want (fetches_at setup a address)) }
+    ensures placed { (setup : Setup) (budget : ℕ) → IsOf setup layout.now budget → is_multiple address 4 ≡ true
+        → AsksPlaced setup result }
+    ensures reserved { (a : State) → NeedsReserved a result }
+    ensures goes_on { result ≢ Need.Over }
+{
+    if is_in_ram(layout, address, 4) {
+        Need::Ask(Access::Fetch { address }, Class::Fetch)
+    } else {
+        Need::Finish(Class::Trap)
+    }
+}
+
+// A walk asks for its next entry.
+fn walk_need(walk: &Walk) -> Need
+    ensures told { (ram : ℕ) (a : State) (k : Kind) (va : ℕ) (next : State → ℕ → Story) → IsReading ram walk.now
+        → result ≡ need_of (want (walking ram a k va next walk.now)) }
+    ensures placed { (setup : Setup) → IsReading setup.ram walk.now → AsksPlaced setup result }
+    ensures reserved { (a : State) → NeedsReserved a result }
+    ensures goes_on { result ≢ Need.Over }
+{
+    match walk.next() {
+        WalkStep::Need(address) => Need::Ask(Access::Pte { address }, Class::Walk),
         _ => Need::Finish(Class::Trap),
     }
+}
+
+fn access_need(work: &MemoryWork, address: u64) -> Need
+    ensures told { (a : State) → IsMemoryWork work.now → result ≡ need_of (want (asking work.now a address)) }
+    ensures placed { (setup : Setup) (budget : ℕ) (layout : Layout) (hart : Hart) → IsOf setup layout budget
+        → IsSoundAccess layout hart address work.now → AsksPlaced setup result }
+    ensures reserved { (layout : Layout) (hart : Hart) (a : State) → Shows hart a
+        → IsSoundAccess layout hart address work.now → NeedsReserved a result }
+    ensures goes_on { result ≢ Need.Over }
+{
+    Need::Ask(access_of(work, address), class_of(work.op))
 }
 
 fn outcome_need(outcome: &Outcome) -> Need
@@ -235,58 +317,128 @@ fn outcome_need(outcome: &Outcome) -> Need
 {
     match *outcome {
         Outcome::End(end) => Need::Finish(end.class),
-        Outcome::Ask { access, .. } => Need::Ask(access, access_class(&access)),
         Outcome::Trap { .. } => Need::Finish(Class::Trap),
         Outcome::AskPending { .. } => Need::Ask(Access::Pulse { tick: false }, Class::Pulse),
         Outcome::AskTime { .. } => Need::Ask(Access::Time, Class::Csr),
         Outcome::WriteCsr { .. } => Need::Finish(Class::Csr),
-        Outcome::Mret | Outcome::Sret => Need::Finish(Class::System),
+        Outcome::Mret | Outcome::Sret | Outcome::FenceMemory => Need::Finish(Class::System),
         Outcome::Unbuilt => Need::Unbuilt,
     }
 }
 
-// A pulse tells the interrupt lines, by which an interrupt may be taken, or that the run is to stop.
-fn after_pulse(hart: &Hart, reply: Reply) -> Progress
+// A pulse tells the interrupt lines, with which the instruction then begins, or that the run is to
+// stop.
+fn after_pulse(hart: &Hart, progress: &mut Progress, layout: &Layout, reply: Reply)
+    ensures node { (setup : Setup) (budget : ℕ) (a : State) → IsOf setup layout.now budget → StandsFor hart.now a
+        → IsFit setup.harts setup.ram setup.budget a → after_pulse setup a reply ≡ node setup a progress.new }
+    ensures sound { is_multiple hart.now.regs.pc 4 ≡ true → AreLeaves (leaves_of progress.old.found)
+        → IsSoundProgress layout.now hart.now progress.new }
+    ensures nearer { left progress.new < 12 }
+    ensures over { is_done progress.new ≡ reply.stop }
+{
+    if reply.stop {
+        progress.stage = Stage::Over;
+    } else {
+        begin(hart, progress, layout, reply.lines);
+    }
+}
+
+// Goes on with a reply in the middle of the instruction.
+fn go_on(hart: &Hart, progress: &mut Progress, layout: &Layout, reply: Reply)
+    requires here { (setup : Setup) × (a : State) × (access : Access) × (budget : ℕ)
+        × IsHere setup a hart.now progress.old layout.now budget
+        × (want (node setup a progress.old) ≡ Asks access) × HasForm access reply }
+    requires begun { has_begun progress.old.stage ≡ true }
+    ensures node { (setup : Setup) (a : State) (access : Access) (budget : ℕ)
+        → IsHere setup a hart.now progress.old layout.now budget → want (node setup a progress.old) ≡ Asks access
+        → after_one (node setup a progress.old) reply ≡ node setup a progress.new }
+    ensures sound { IsSoundProgress layout.now hart.now progress.new }
+    ensures nearer { left progress.new < left progress.old }
+    ensures over { is_done progress.new ≡ (tells_stop progress.old.stage && reply.stop) }
+{
+    match progress.stage {
+        Stage::FetchWalk(walk) => {
+            let came = after_entry(hart, layout, Kind::Fetch, hart.regs.pc, walk, reply);
+            progress.found.note(&came);
+            progress.stage = fetch_stage(hart, layout, &came);
+        }
+        Stage::Fetch(_) => {
+            progress.stage = work(hart, layout, &progress.found, reply.value as u32);
+        }
+        Stage::AccessWalk(walk, work) => {
+            let kind = kind_of(work.op);
+            let came = after_entry(hart, layout, kind, work.address, walk, reply);
+            progress.found.note(&came);
+            progress.stage = access_stage(hart, layout, work, &came);
+        }
+        Stage::Access(address, work) => {
+            let end = end_by_reply(hart, &work, address, reply.value);
+            progress.stage = Stage::Working(Outcome::End(end));
+        }
+        Stage::Working(outcome) => after_csr_access(hart, progress, outcome, reply),
+        Stage::Begun => unreachable!(),
+        Stage::Over => unreachable!(),
+    }
+}
+
+// What the walk comes to by the entry that it needed.
+fn after_entry(
+    hart: &Hart,
+    layout: &Layout,
+    kind: Kind,
+    va: u64,
+    walk: Walk,
+    reply: Reply,
+) -> Translated
+    requires { IsReading layout.now.ram walk }
+    ensures arrives { (setup : Setup) (budget : ℕ) (a : State) (next : State → ℕ → Story) → IsOf setup layout.now budget
+        → Shows hart.now a → after_one (walking setup.ram a kind va next walk) reply
+            ≡ translated_of setup.ram a kind va next result }
+    ensures nearer { entries_in result ≢ 0 → entries_in result < entries_left walk }
+    ensures sound { IsSoundTranslated layout.now.ram va result }
+{
+    let mut walk = walk;
+    walk.give(reply.value);
+    arrive(hart, layout, kind, va, walk)
+}
+
+// After the access by which a CSR instruction reads the pending interrupts, whose lines count from
+// then on, or the time.
+fn after_csr_access(hart: &Hart, progress: &mut Progress, outcome: Outcome, reply: Reply)
+    requires stage { progress.old.stage ≡ Stage.Working outcome }
+    requires asks { left_at (Stage.Working outcome) ≢ 0 }
+    requires sound { (layout : Layout) × IsSoundOutcome layout hart.now outcome }
     ensures node { (setup : Setup) (a : State) → StandsFor hart.now a
-        → node setup a result ≡ after_pulse setup a reply }
-    ensures sound { (layout : Layout) → IsSoundProgress layout hart.now result }
-    ensures nearer { left result < 3 }
-    ensures over { is_done result ≡ reply.stop }
+        → after_one (outcome_of (state_at a progress.old.lines progress.old.found) outcome) reply ≡ node setup a progress.new }
+    ensures sound { (layout : Layout) (count : ℕ) → IsSoundStage layout hart.now count progress.new.stage }
+    ensures found { progress.new.found ≡ progress.old.found }
+    ensures nearer { left progress.new < 1 }
+    ensures over { is_done progress.new ≡ (tells_stop (Stage.Working outcome) && reply.stop) }
 {
-    if reply.stop {
-        return Progress::Over;
+    match outcome {
+        Outcome::AskPending {
+            op,
+            rd,
+            rs1,
+            number,
+        } => {
+            if reply.stop {
+                progress.stage = Stage::Over;
+            } else {
+                let old = csr_value(hart, number, reply.lines, 0);
+                progress.lines = reply.lines;
+                progress.stage = Stage::Working(update_csr(hart, op, rd, rs1, number, old));
+            }
+        }
+        Outcome::AskTime {
+            op,
+            rd,
+            rs1,
+            number,
+        } => {
+            let old = csr_value(hart, number, 0, reply.value);
+            progress.stage = Stage::Working(update_csr(hart, op, rd, rs1, number, old));
+        }
+        _ => unreachable!(),
     }
-    match hart.csrs.takeable(reply.lines, hart.regs.mode) {
-        Some(cause) => Progress::Working(reply.lines, Outcome::Trap { cause, tval: 0 }),
-        None => Progress::Pulsed(reply.lines),
-    }
-}
-
-// So does the pulse by which a CSR instruction reads the pending interrupts; it goes on in any case.
-fn after_csr_pulse(hart: &Hart, op: CsrOp, rd: u8, rs1: u8, number: u16, reply: Reply) -> Progress
-    requires rd { rd < 32 }
-    requires rs1 { rs1 < 32 }
-    ensures node { (setup : Setup) (a : State) → Shows hart.now a
-        → node setup a result ≡ after_csr_pulse a op rd rs1 number reply }
-    ensures sound { (layout : Layout) → IsSoundProgress layout hart.now result }
-    ensures nearer { left result < 1 }
-    ensures over { is_done result ≡ reply.stop }
-{
-    if reply.stop {
-        return Progress::Over;
-    }
-    let old = csr_value(hart, number, reply.lines, 0);
-    Progress::Working(reply.lines, update_csr(hart, op, rd, rs1, number, old))
-}
-
-// The word is decoded once, here.
-fn after_fetch(hart: &Hart, layout: &Layout, lines: u64, reply: Reply) -> Progress
-    requires { reply.value < 2 ^ 32 }
-    ensures works { (setup : Setup) (budget : ℕ) (a : State) → IsOf setup layout.now budget → Shows hart.now a
-        → works setup (record a { lines = lines }) reply.value (decoded reply.value) ≡ node setup a result }
-    ensures sound { IsSoundProgress layout.now hart.now result }
-    ensures nearer { left result < 2 }
-    ensures goes_on { is_done result ≡ false }
-{
-    Progress::Working(lines, work(hart, layout, reply.value as u32))
 }

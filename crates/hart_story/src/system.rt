@@ -7,7 +7,7 @@ ghost use Rattle.flex_base.specs.Causes.{illegal_instruction, breakpoint, ecall_
 ghost use Rattle.flex_base.specs.Traps.{mret, sret};
 ghost use Rattle.flex_base.specs.StoryTree.{ComesLater};
 ghost use Rattle.flex_base.specs.Ends.{traps, traps_illegal, returns};
-ghost use Rattle.flex_base.specs.Story.{supervises, is_machine};
+ghost use Rattle.flex_base.specs.Story.{supervises, is_machine, fences_memory};
 ghost use Rattle.flex_base.specs.declared.settings.Layout.{Layout};
 ghost use Rattle.hart_story.specs.StandsFor.{Shows};
 ghost use Rattle.hart_story.specs.Outcome.{ComesAs, IsSoundOutcome};
@@ -91,14 +91,13 @@ pub(crate) fn wfi(hart: &Hart, word: u32) -> Outcome
     }
 }
 
-// Translation isn't built yet.
 pub(crate) fn sfence_vma(hart: &Hart, word: u32) -> Outcome
     ensures works { ComesAs hart.now
-        (λ a. if supervises TVM a.csrs a.mode then ComesLater else traps_illegal a word) result }
+        (λ a. if supervises TVM a.csrs a.mode then fences_memory a else traps_illegal a word) result }
     ensures sound { (layout : Layout) → IsSoundOutcome layout hart.now result }
 {
     if supervises(hart, TVM) {
-        Outcome::Unbuilt
+        Outcome::FenceMemory
     } else {
         illegal(word)
     }

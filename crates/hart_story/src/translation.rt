@@ -1,18 +1,19 @@
 // Virtual addresses (Volume II, "Virtual Address Translation Process").
-ghost use Rattle.std.specs.Prelude.{◌≡◌, ◌%◌, ◌<◌, ◌||◌, ℕ, [], IsTrue, IfSome, IsSome, ◌↔◌};
+ghost use Rattle.std.specs.Prelude.{◌≡◌, ◌≢◌, ◌%◌, ◌<◌, ◌||◌, ℕ, [], IsTrue, IfSome, IsSome, ◌↔◌};
 ghost use Rattle.flex_base.specs.Setup.{Setup};
 ghost use Rattle.flex_base.specs.State.{State};
 ghost use Rattle.flex_base.specs.StoryTree.{Story};
 ghost use Rattle.flex_base.specs.Word.{is_set};
 ghost use Rattle.flex_base.specs.Translation.{is_canonical, is_mode_s, is_mode_u, page_of, IsLeaf, address_in};
 ghost use Rattle.flex_base.specs.Translating.{mode_by_mprv, mode_for, is_translated, may_use, with_leaf, uses, walks, translates};
+ghost use Rattle.flex_base.specs.declared.translation.Leaf.{Leaf};
 ghost use Rattle.flex_base.specs.declared.translation.WalkStep.TheVariants as step;
 ghost use Rattle.flex_base.specs.declared.hart.Mode.TheVariants as mode;
 ghost use Rattle.sv39.specs.IsAfter.{ahead, entries_left};
 ghost use Rattle.hart_story.specs.Found.{Sees};
 ghost use Rattle.hart_story.specs.Outcome.{IsOf};
 ghost use Rattle.hart_story.specs.StandsFor.{Shows};
-ghost use Rattle.hart_story.specs.Translated.{translated_of, IsSoundTranslated};
+ghost use Rattle.hart_story.specs.Translated.{translated_of, state_after, entries_in, IsSoundTranslated};
 
 use crate::causes::{access_fault, page_fault};
 use crate::found::Found;
@@ -50,6 +51,7 @@ pub enum Translated {
 pub(crate) fn translate(hart: &Hart, layout: &Layout, found: &Found, kind: Kind, va: u64) -> Translated
     ensures translates { (setup : Setup) (budget : ℕ) (a : State) (next : State → ℕ → Story) → IsOf setup layout.now budget
         → Sees hart.now found.now a → translates setup.ram a kind va next ≡ translated_of setup.ram a kind va next result }
+    ensures same { (a : State) → state_after a result ≡ a }
     ensures sound { IsSoundTranslated layout.now.ram va result }
 {
     if !is_translated(hart, kind) {
@@ -70,6 +72,9 @@ pub(crate) fn arrive(hart: &Hart, layout: &Layout, kind: Kind, va: u64, walk: Wa
     ensures arrives { (setup : Setup) (budget : ℕ) (a : State) (next : State → ℕ → Story) (left : ℕ) → IsOf setup layout.now budget
         → Shows hart.now a → ((address : ℕ) → ahead walk [] ≡ step.Need address → left ≡ entries_left walk)
         → walks setup.ram a kind va next left (ahead walk) ≡ translated_of setup.ram a kind va next result }
+    ensures walk { entries_in result ≢ 0 → (address : ℕ) × (ahead walk [] ≡ step.Need address)
+        × (entries_in result ≡ entries_left walk) }
+    ensures same { ((leaf : Leaf) → ahead walk [] ≢ step.Leaf leaf) → (a : State) → state_after a result ≡ a }
     ensures sound { IsSoundTranslated layout.now.ram va result }
 {
     match walk.next() {

@@ -5,13 +5,13 @@ ghost use Rattle.flex_base.specs.Forms.{IsWidth};
 ghost use Rattle.flex_base.specs.Story.{extended};
 
 pub(crate) fn cut(width: u8, value: u64) -> u64
-    requires { IsWidth width }
-    ensures { result ≡ low (8 * width) value }
+    ensures { IsWidth width → result ≡ low (8 * width) value }
 {
-    if width == 8 {
-        value
-    } else {
-        lowest(8 * width as u32, value)
+    match width {
+        1 => lowest(8, value),
+        2 => lowest(16, value),
+        4 => lowest(32, value),
+        _ => value,
     }
 }
 

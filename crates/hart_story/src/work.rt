@@ -1,52 +1,64 @@
-ghost use Rattle.std.specs.Prelude.{◌≡◌};
+ghost use Rattle.std.specs.Prelude.{◌≡◌, ◌<◌, ◌≤◌, ℕ, false};
 ghost use Rattle.flex_base.specs.Story.{works};
 ghost use Rattle.flex_base.specs.Decoding.{decoded};
 ghost use Rattle.hart_story.specs.Operands.{HasOperands};
-ghost use Rattle.hart_story.specs.Outcome.{ComesTo, IsSoundOutcome};
+ghost use Rattle.hart_story.specs.declared.outcome.Outcome.TheVariants as Outcome;
+ghost use Rattle.hart_story.specs.declared.stage.Stage.TheVariants as Stage;
+ghost use Rattle.hart_story.specs.Stage.{left_at, is_over_at, ComesTo, IsSoundStage};
 
-use crate::atomic::{load_reserved, modify, store_conditional};
 use crate::csr::use_csr;
 use crate::ends::{end_with, end_without};
+use crate::found::Found;
 use crate::hart::{Hart, read};
 use crate::jump::{branch, even, jump};
-use crate::memory::{load, store};
-use crate::outcome::Outcome;
+use crate::memory::reach;
+use crate::memory_work::{MemoryOp, MemoryWork};
+use crate::outcome::{End, Outcome};
+use crate::stage::Stage;
 use crate::system::{ebreak, ecall, illegal, mret, sfence_vma, sret, wfi};
 use flex_base::{Class, Layout, Op};
 use rv_alu::{alu, muldiv};
 use rv_decode::decode;
 
-// What the word does, an operation a line.
+// What the word does, an operation a line. Its fetch may have found a leaf.
 #[rattlefmt::skip]
-pub(crate) fn work(hart: &Hart, layout: &Layout, word: u32) -> Outcome
-    ensures works { ComesTo layout.now hart.now (λ setup a. works setup a word (decoded word)) result }
-    ensures sound { IsSoundOutcome layout.now hart.now result }
+pub(crate) fn work(hart: &Hart, layout: &Layout, found: &Found, word: u32) -> Stage
+    ensures works { ComesTo layout.now hart.now found.now (λ setup a. works setup a word (decoded word)) result }
+    ensures sound { (count : ℕ) → count ≤ 1 → IsSoundStage layout.now hart.now count result }
+    ensures nearer { left_at result < 6 }
+    ensures goes_on { is_over_at result ≡ false }
 {
     let pc = hart.regs.pc;
     match operation(word) {
-        Op::Lui { rd, imm } => Outcome::End(end_with(hart, Class::Alu, rd, imm)),
-        Op::Auipc { rd, imm } => Outcome::End(end_with(hart, Class::Alu, rd, pc.wrapping_add(imm))),
-        Op::AluImm { op, rd, rs1, imm } => Outcome::End(end_with(hart, Class::Alu, rd, alu(op, read(hart, rs1), imm))),
-        Op::AluReg { op, rd, rs1, rs2 } => Outcome::End(end_with(hart, Class::Alu, rd, alu(op, read(hart, rs1), read(hart, rs2)))),
-        Op::Muldiv { op, rd, rs1, rs2 } => Outcome::End(end_with(hart, Class::Muldiv, rd, muldiv(op, read(hart, rs1), read(hart, rs2)))),
-        Op::Jal { rd, imm } => jump(hart, pc.wrapping_add(imm), rd),
-        Op::Jalr { rd, rs1, imm } => jump(hart, even(read(hart, rs1).wrapping_add(imm)), rd),
-        Op::Branch { op, rs1, rs2, imm } => branch(hart, op, read(hart, rs1), read(hart, rs2), pc.wrapping_add(imm)),
-        Op::Load { width, signed, rd, rs1, imm } => load(layout, width, signed, rd, read(hart, rs1).wrapping_add(imm)),
-        Op::Store { width, rs1, rs2, imm } => store(layout, width, read(hart, rs1).wrapping_add(imm), read(hart, rs2)),
-        Op::Lr { width, rd, rs1, .. } => load_reserved(layout, width, rd, read(hart, rs1)),
-        Op::Sc { width, rd, rs1, rs2, .. } => store_conditional(hart, layout, width, rd, read(hart, rs1), read(hart, rs2)),
-        Op::Amo { op, width, rd, rs1, rs2, .. } => modify(layout, op, width, rd, read(hart, rs1), read(hart, rs2)),
-        Op::Fence { .. } | Op::FenceI { .. } => Outcome::End(end_without(hart, Class::Fence)),
-        Op::Csr { op, rd, rs1, number } => use_csr(hart, word, op, rd, rs1, number),
-        Op::Ecall => ecall(hart),
-        Op::Ebreak => ebreak(),
-        Op::Mret => mret(hart, word),
-        Op::Sret => sret(hart, word),
-        Op::Wfi => wfi(hart, word),
-        Op::SfenceVma { .. } => sfence_vma(hart, word),
-        Op::Illegal(whole) => illegal(whole),
+        Op::Lui { rd, imm } => ends(end_with(hart, Class::Alu, rd, imm)),
+        Op::Auipc { rd, imm } => ends(end_with(hart, Class::Alu, rd, pc.wrapping_add(imm))),
+        Op::AluImm { op, rd, rs1, imm } => ends(end_with(hart, Class::Alu, rd, alu(op, read(hart, rs1), imm))),
+        Op::AluReg { op, rd, rs1, rs2 } => ends(end_with(hart, Class::Alu, rd, alu(op, read(hart, rs1), read(hart, rs2)))),
+        Op::Muldiv { op, rd, rs1, rs2 } => ends(end_with(hart, Class::Muldiv, rd, muldiv(op, read(hart, rs1), read(hart, rs2)))),
+        Op::Jal { rd, imm } => Stage::Working(jump(hart, pc.wrapping_add(imm), rd)),
+        Op::Jalr { rd, rs1, imm } => Stage::Working(jump(hart, even(read(hart, rs1).wrapping_add(imm)), rd)),
+        Op::Branch { op, rs1, rs2, imm } => Stage::Working(branch(hart, op, read(hart, rs1), read(hart, rs2), pc.wrapping_add(imm))),
+        Op::Load { width, signed, rd, rs1, imm } => reach(hart, layout, found, MemoryWork { op: MemoryOp::Load, width, signed, rd, address: read(hart, rs1).wrapping_add(imm), value: 0 }),
+        Op::Store { width, rs1, rs2, imm } => reach(hart, layout, found, MemoryWork { op: MemoryOp::Store, width, signed: false, rd: 0, address: read(hart, rs1).wrapping_add(imm), value: read(hart, rs2) }),
+        Op::Lr { width, rd, rs1, .. } => reach(hart, layout, found, MemoryWork { op: MemoryOp::LoadReserved, width, signed: true, rd, address: read(hart, rs1), value: 0 }),
+        Op::Sc { width, rd, rs1, rs2, .. } => reach(hart, layout, found, MemoryWork { op: MemoryOp::StoreConditional, width, signed: false, rd, address: read(hart, rs1), value: read(hart, rs2) }),
+        Op::Amo { op, width, rd, rs1, rs2, .. } => reach(hart, layout, found, MemoryWork { op: MemoryOp::Modify(op), width, signed: true, rd, address: read(hart, rs1), value: read(hart, rs2) }),
+        Op::Fence { .. } | Op::FenceI { .. } => ends(end_without(hart, Class::Fence)),
+        Op::Csr { op, rd, rs1, number } => Stage::Working(use_csr(hart, word, op, rd, rs1, number)),
+        Op::Ecall => Stage::Working(ecall(hart)),
+        Op::Ebreak => Stage::Working(ebreak()),
+        Op::Mret => Stage::Working(mret(hart, word)),
+        Op::Sret => Stage::Working(sret(hart, word)),
+        Op::Wfi => Stage::Working(wfi(hart, word)),
+        Op::SfenceVma { .. } => Stage::Working(sfence_vma(hart, word)),
+        Op::Illegal(whole) => Stage::Working(illegal(whole)),
     }
+}
+
+fn ends(end: End) -> Stage
+    ensures { result ≡ Stage.Working (Outcome.End end) }
+{
+    Stage::Working(Outcome::End(end))
 }
 
 // The operation of the word. It names registers that there are, and widths of memory.

@@ -1,6 +1,8 @@
 -- The end is what the instruction has come to.
 use Rattle.std.proofs.Common.{ℕ, List, Option, true, false, refl, ap, sym, subst, ◌∙◌}
 use Rattle.flex_base.specs.Csrs.{AreFit}
+use Rattle.hart_state.specs.IsLatest.{IsLatest}
+use Rattle.hart_state.specs.declared.kept.Kept.{Kept}
 use Rattle.flex_base.specs.State.{State, IsReservation, set_reg}
 use Rattle.flex_base.specs.Traps.{count}
 use Rattle.flex_base.specs.Word.{is_multiple}
@@ -19,10 +21,12 @@ returns-clause-commits c = λ layout budget sound setup a of stands fit unspent.
     (c.count.ensures.fit setup.harts (subst Fit (sym stands.csrs) fit.csrs)) in
     let Within : ℕ → Type 0 = λ ram. IsReservation ram was.regs.reservation in
     let Left : ℕ → Type 0 = λ ram. IsReservation ram end.reservation in
-    let Kept : Option ℕ → Type 0 = λ r. IsReservation setup.ram r in
-    let own = subst Kept (sym stands.regs.reservation) fit.reserved in
+    let Own : Option ℕ → Type 0 = λ r. IsReservation setup.ram r in
+    let own = subst Own (sym stands.regs.reservation) fit.reserved in
     let aligned = sound.aligned (ap (λ pc. is_multiple pc 4) stands.regs.pc ∙ fit.aligned) in
+    let Latest : Kept → Type 0 = λ k. IsLatest k a.leaves in
+    let kept : IsLatest c.close.new.hart.kept a.leaves = subst Latest (sym c.close.ensures.kept) stands.kept in
     let left = ended setup a after c.close.new.hart end.next (set_reg was.regs.x end.rd end.value) was.regs.mode end.reservation was.regs.ends false
     (c.close.ensures.regs ∙ ap (λ (r : Regs). regs_left r.pc r.x r.mode end.reservation r.ends c.args.lines false) c.set.ensures) refl (ap (λ x. set_reg x end.rd end.value) stands.regs.x) stands.regs.mode refl stands.regs.ends stores unspent aligned
-    (subst Left (sym of.ram) (sound.reserved of.whole (subst Within of.ram own))) fit_csrs in
+    (subst Left (sym of.ram) (sound.reserved of.whole (subst Within of.ram own))) fit_csrs kept fit.leaves in
     (part_is end.class was.regs.pc a.pc end.next end.next end.rd _ _ stands.regs.pc refl c.told_of.ensures, left.0, left.1)

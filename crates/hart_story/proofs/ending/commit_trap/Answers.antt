@@ -1,6 +1,8 @@
 -- A trap leads where the stores of the hart say.
 use Rattle.std.proofs.Common.{◌≡◌, ℕ, List, true, false, refl, ap, sym, subst, ◌∙◌}
 use Rattle.flex_base.specs.Csrs.{AreFit}
+use Rattle.hart_state.specs.IsLatest.{IsLatest}
+use Rattle.hart_state.specs.declared.kept.Kept.{Kept}
 use Rattle.flex_base.specs.State.{State}
 use Rattle.flex_base.specs.Traps.{Transfer, trap, count}
 use Rattle.flex_base.specs.Word.{is_multiple}
@@ -25,6 +27,8 @@ returns-clause-commits c = λ layout budget setup a of stands fit unspent.
     let aligned : is_multiple was.regs.pc 4 ≡ true = ap (λ p. is_multiple p 4) stands.regs.pc ∙ fit.aligned in
     let fit_csrs : AreFit setup.harts c.close.new.hart.csrs = subst Fit (sym c.close.ensures.csrs)
     (c.count.ensures.fit setup.harts (c.enter_trap-next.ensures.fit setup.harts (subst Fit (sym stands.csrs) fit.csrs) aligned c.requires.cause)) in
+    let Latest : Kept → Type 0 = λ k. IsLatest k a.leaves in
+    let kept : IsLatest c.close.new.hart.kept a.leaves = subst Latest (sym c.close.ensures.kept) stands.kept in
     let left = ended setup a after c.close.new.hart c.enter_trap-next.result.0 was.regs.x c.enter_trap-next.result.1 was.regs.reservation was.regs.ends false
-    c.close.ensures.regs next stands.regs.x mode stands.regs.reservation stands.regs.ends stores unspent c.enter_trap-next.ensures.aligned fit.reserved fit_csrs in
+    c.close.ensures.regs next stands.regs.x mode stands.regs.reservation stands.regs.ends stores unspent c.enter_trap-next.ensures.aligned fit.reserved fit_csrs kept fit.leaves in
     (part_is class.Trap was.regs.pc a.pc c.enter_trap-next.result.0 to.pc c.args.cause c.args.tval c.args.tval stands.regs.pc next refl, left.0, left.1)

@@ -1,0 +1,14 @@
+-- The hart without translations ends as after any instruction that writes no register.
+use Rattle.std.proofs.Common.{[]}
+use Rattle.flex_base.specs.State.{State}
+use Rattle.hart_story.proofs.ending.commit_fence.Goals as goal
+
+pub commit_end-requires-clause-register : goal.commit_end-requires-clause-register
+commit_end-requires-clause-register c = (c.end_without-end.ensures.sound (record { harts = 1; ram = 0 })).register
+
+pub returns-clause-commits : goal.returns-clause-commits
+returns-clause-commits c = λ layout budget setup a of stands fit unspent.
+    let bare : State = record a { leaves = [] } in
+    c.commit_end.ensures.commits layout budget (c.end_without-end.ensures.sound layout) setup bare of
+    (record { regs = record { pc = stands.regs.pc; x = stands.regs.x; mode = stands.regs.mode; reservation = stands.regs.reservation; ends = stands.regs.ends; lines = stands.regs.lines; due = stands.regs.due }; csrs = stands.csrs; kept = c.clear.ensures })
+    (record { aligned = fit.aligned; within = fit.within; reserved = fit.reserved; csrs = fit.csrs; leaves = tt }) unspent
