@@ -2,3 +2,5 @@ pub mod Needing
 pub mod Operands
 pub mod Reserving
 pub mod Committing
+pub mod Walking
+pub mod Seeing
