@@ -2,3 +2,4 @@ pub mod Needing
 pub mod Operands
 pub mod Reserving
 pub mod Committing
+pub mod Placing
