@@ -5,4 +5,5 @@ use Rattle.hart_story.proofs.memory.place_anywhere.Goals as goal
 
 pub returns-in-Ram-clause-sound : goal.returns-in-Ram-clause-sound
 returns-in-Ram-clause-sound c = λ hart count lies.
-    lies (in_ram-placed c.args.layout.now.harts c.args.layout.now.ram c.args.address c.args.work.width (sym c.place.ensures ∙ c.in-Ram.is))
+    lies (in_ram-placed c.args.layout.now.harts c.args.layout.now.ram c.args.address c.args.work.width
+    (sym c.place.ensures ∙ c.in-Ram.is))
