@@ -1,17 +1,16 @@
 -- A load, a store or an atomic instruction at its physical address.
-use Rattle.std.proofs.Common.{◌≡◌, ℕ, ◌%◌, true, ◌||◌, ◌==◌, refl, ap, sym, subst, ◌∙◌, arith}
+use Rattle.std.proofs.Common.{◌≡◌, ℕ, ◌%◌, true, refl, ap, sym, subst, ◌∙◌, arith}
 use Rattle.flex_base.specs.Word.{is_multiple}
 use Rattle.flex_base.specs.Setup.{Setup}
 use Rattle.flex_base.specs.State.{State}
 use Rattle.flex_base.specs.Causes.{access_fault}
-use Rattle.flex_base.specs.Forms.{IsWidth, IsAtomicWidth, IsPlaced}
+use Rattle.flex_base.specs.Forms.{IsWidth, IsPlaced}
 use Rattle.flex_base.specs.Place.{in_ram}
 use Rattle.flex_base.specs.StoryTree.{Says}
 use Rattle.flex_base.specs.Translating.{with_leaf}
 use Rattle.flex_base.specs.Ends.{traps}
 use Rattle.flex_base.specs.declared.settings.Layout.{Layout}
 use Rattle.flex_base.specs.declared.translation.Leaf.{Leaf}
-use Rattle.hart_state.specs.AreRegsOf.{AreRegsOf}
 use Rattle.hart_story.specs.Memory.{kind_of, reaching_by, reaching, access_by, closing_by, asking, placing_by, HasWidth, IsMemoryWork}
 use Rattle.hart_story.specs.Need.{IsReservedFor}
 use Rattle.hart_story.specs.StandsFor.{Shows}
