@@ -4,3 +4,4 @@ pub mod Reserving
 pub mod Committing
 pub mod Walking
 pub mod Seeing
+pub mod Placing
