@@ -8,7 +8,6 @@ pub mod Translating
 pub mod Walked
 pub mod Leading
 pub mod Standing
-pub mod Quiet
 pub mod OwnReservations
 pub mod StandingReservations
 pub mod EndOfRun
@@ -17,6 +16,7 @@ pub mod KnownBytes
 pub mod DevicePlaces
 pub mod Alarms
 pub mod DeviceLaws
+pub mod Fitting
 pub mod Waking
 pub mod Idle
 pub mod Timing
