@@ -15,7 +15,7 @@ use Rattle.flex_base.specs.declared.hart_device.HartStanding.{HartStanding}
 use Rattle.flex_base.specs.declared.hart_device.HartStanding.TheVariants as stand
 use Rattle.flex_base.proofs.DeviceLaws.{harts_in, harts-wakes, harts-set_hart, harts-rests, harts-runs_if_woken, harts-spends, harts-stores, stopped_step}
 
-abbrev standing_in : DeviceState → ℕ → HartStanding
+abbrev pub standing_in : DeviceState → ℕ → HartStanding
 standing_in s k = (hart_at s k).standing
 
 -- what others may do to a hart: they wake it, and nothing else
@@ -91,7 +91,7 @@ after_stores s Finisher address width value k within =
 after_stores s (Msip h) address width value k within = after_same (standing_in s k) _ (standing_set s h k _ within refl)
 after_stores s (Mtimecmp h) address width value k within = after_same (standing_in s k) _ (standing_set s h k _ within refl)
 after_stores s Mtime address width value k within = after_same (standing_in s k) (standing_in s k) refl
-after_stores s other address width value k within = after_same (standing_in s k) (standing_in s k) refl
+after_stores s _ address width value k within = after_same (standing_in s k) (standing_in s k) refl
 
 harts-now : (s : DeviceState) (r : Register) (address width value k : ℕ) → k < harts_in s → k < harts_in (stores s r address width value)
 harts-now s r address width value k within = omega (arith, harts-stores s r address width value, within)
@@ -289,3 +289,29 @@ fits_own s left h (acc.Sc address width value) node within fits may =
     runs_on (standing_in s h) _ s.stop _ (runs_now (standing_in s h) s.stop node (acc.Sc address width value) (λ e. cc) fits may) (after_wakes s h within)
 fits_own s left h (acc.Amo op address width value) node within fits may =
     runs_on (standing_in s h) _ s.stop _ (runs_now (standing_in s h) s.stop node (acc.Amo op address width value) (λ e. cc) fits may) (after_wakes s h within)
+
+-- What a pulse of a hart that runs, or is woken, is told.
+
+runs_if : (h : ℕ) (b : Bool) (s t : DeviceState) → standing_in s h ≡ stand.Runs → (b ≡ false → standing_in t h ≡ stand.Runs) → standing_in (if b then s else t) h ≡ stand.Runs
+runs_if h true s t first second = first
+runs_if h false s t first second = second refl
+
+awake_by : (standing : HartStanding) → (standing ≡ stand.Runs) ⊎ (standing ≡ stand.Woken) → is_woken standing ≡ false → standing ≡ stand.Runs
+awake_by standing (inl runs) off = runs
+awake_by standing (inr woken) off = let on = ap is_woken woken in absurd cc
+
+-- the hart runs after it
+pub pulse_runs : (s : DeviceState) (h : ℕ) (tick : Bool) → h < harts_in s → (standing_in s h ≡ stand.Runs) ⊎ (standing_in s h ≡ stand.Woken)
+    → standing_in (device_step s h (acc.Pulse tick)) h ≡ stand.Runs
+pulse_runs s h tick within awake =
+    let now : DeviceState = record s { mtime = next_mtime s.mtime tick } in
+    let running = runs_if_woken now h in
+    let runs : standing_in running h ≡ stand.Runs = runs_if h (is_woken (standing_in now h)) (stands_as now h stand.Runs) now
+        (standing-own now h (record (hart_at now h) { standing = stand.Runs }) within) (awake_by (standing_in now h) awake) in
+    let After : HartStanding → Type 0 = λ x. IsAfter x (standing_in (wakes running) h) in
+    subst After runs (after_wakes running h (omega (arith, harts-runs_if_woken now h, within)))
+
+-- and is told 0
+pub pulse_told : (s : DeviceState) (left : List ℕ) (h : ℕ) (tick : Bool) → h < harts_in s → (standing_in s h ≡ stand.Runs) ⊎ (standing_in s h ≡ stand.Woken)
+    → (reply_in s left h (acc.Pulse tick)).value ≡ 0
+pulse_told s left h tick within awake = ap (λ x. if still_waits x then 1 else 0) (pulse_runs s h tick within awake)

@@ -7,6 +7,7 @@ pub mod Turns
 pub mod Translating
 pub mod Walked
 pub mod Leading
+pub mod Sending
 pub mod Standing
 pub mod OwnReservations
 pub mod StandingReservations
