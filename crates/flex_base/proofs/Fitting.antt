@@ -160,7 +160,7 @@ some_is : (old : Option Stop) → is_some old ≡ true → (first : Stop) × (ol
 some_is None e = absurd cc
 some_is (Some first) e = (first, refl)
 
-still_stopped : (s : DeviceState) (h : ℕ) (access : Access) → is_some s.stop ≡ true → is_some (device_step s h access).stop ≡ true
+pub still_stopped : (s : DeviceState) (h : ℕ) (access : Access) → is_some s.stop ≡ true → is_some (device_step s h access).stop ≡ true
 still_stopped s h access stands = let old = some_is s.stop stands in ap is_some (stopped_step old.0 s h access old.1)
 
 -- while another hart makes an access

@@ -103,7 +103,7 @@ fits_in setup u h s node same at fits =
     let In : DeviceState → Type 0 = λ t. Fits (standing_in t h) t.stop (node_of (story_of setup u h)) in
     subst In (sym same) (fits_as (standing_in s h) s.stop node (node_of (story_of setup u h)) at fits)
 
-devices_push : (harts : ℕ) (made : List Done) (h : ℕ) (access : Access) (reply : Reply) → devices harts (with_access made h access reply) ≡ device_step (devices harts made) h access
+pub devices_push : (harts : ℕ) (made : List Done) (h : ℕ) (access : Access) (reply : Reply) → devices harts (with_access made h access reply) ≡ device_step (devices harts made) h access
 devices_push harts made h access reply = fold_push (λ s (d : Done). device_step s d.hart d.access) (devices_start harts) made _
 
 -- one of the harts makes an access
