@@ -31,6 +31,7 @@ use Rattle.flex_base.proofs.Turns.{story_parks, ended_all, idle_ended, stop_ende
 use Rattle.flex_base.proofs.OwnReservations.{all_asks_reserved}
 use Rattle.flex_base.proofs.DeviceLaws.{devices_live, harts-devices, stop_stays}
 use Rattle.flex_base.proofs.Fitting.{standing_in, still_stopped}
+use Rattle.flex_base.proofs.Totals.{total, total_least, total_more, total_most}
 use Rattle.flex_base.proofs.Sending.{count_own, sent_of}
 use Rattle.flex_base.proofs.Standing.{closing, Stands, Works, Retires, Retired, devices_in, devices_push, AllStand, all_step, all_from, all_stand}
 
@@ -49,7 +50,7 @@ closing_most StaysOver = omega arith
 closing_most (Parks wakes) = omega arith
 
 -- nor transmitted more bytes than it may make ends
-stands_sends : (setup : Setup) (u : Machine) (h : ℕ) → Stands setup u h → sent_of h u.events ≤ setup.budget
+pub stands_sends : (setup : Setup) (u : Machine) (h : ℕ) → Stands setup u h → sent_of h u.events ≤ setup.budget
 stands_sends setup u h (Works node left unspent leads few sends) = omega (arith, unspent, sends, closing_most (story_of setup u h))
 stands_sends setup u h (Retires e within few sends) = sends
 stands_sends setup u h (Retired e few sends) = sends
@@ -178,32 +179,6 @@ rounds_rest setup order ended =
     ap (λ names. order ++ names) (turns_ended setup (reach setup order) (repeated (most_rounds setup) (hart_numbers setup)) ended) ∙ append-nil order
 
 -- How many events all harts have made.
-
--- the sum of a function's values below a number
-abbrev pub total : (ℕ → ℕ) → ℕ → ℕ
-total f zero = 0
-total f (suc n) = total f n + f n
-
-pub total_least : (f g : ℕ → ℕ) (n : ℕ) → ((k : ℕ) → k < n → f k ≤ g k) → total f n ≤ total g n
-total_least f g zero each = omega arith
-total_least f g (suc n) each = omega (arith, each n (omega arith), total_least f g n (λ k below. each k (omega (arith, below))))
-
--- where one of the values has grown by so much
-pub total_more : (f g : ℕ → ℕ) (n h more : ℕ) → h < n → ((k : ℕ) → k < n → f k ≤ g k) → f h + more ≤ g h → total f n + more ≤ total g n
-total_more f g zero h more below each grown = absurd (omega (arith, below))
-total_more f g (suc n) h more below each grown = elim (cases_eq h n) [
-  | inl same ↦
-      let At : ℕ → Type 0 = λ j. f j + more ≤ g j in
-      omega (arith, subst At same grown, total_least f g n (λ k within. each k (omega (arith, within))))
-  | inr other ↦
-      omega (arith, each n (omega arith), total_more f g n h more (omega (arith, below, other)) (λ k within. each k (omega (arith, within))) grown)
-]
-
-pub total_most : (f : ℕ → ℕ) (n most : ℕ) → ((k : ℕ) → k < n → f k ≤ most) → total f n ≤ n * most
-total_most f zero most each = omega arith
-total_most f (suc n) most each =
-    let one : suc n * most ≡ n * most + most = omega arith in
-    omega (arith, one, each n (omega arith), total_most f n most (λ k below. each k (omega (arith, below))))
 
 abbrev pub made_in : Setup → Machine → ℕ
 made_in setup u = total (λ h. count_of h u.events) setup.harts

@@ -7,11 +7,13 @@ pub mod Turns
 pub mod Translating
 pub mod Walked
 pub mod Leading
+pub mod Totals
 pub mod Sending
 pub mod Standing
 pub mod OwnReservations
 pub mod StandingReservations
 pub mod EndOfRun
+pub mod Console
 pub mod EndClass
 pub mod KnownBytes
 pub mod DevicePlaces
