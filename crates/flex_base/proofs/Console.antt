@@ -4,18 +4,17 @@ use Rattle.flex_base.specs.Setup.{Setup}
 use Rattle.flex_base.specs.FlatMemory.{Done, is_ram_access}
 use Rattle.flex_base.specs.StoryTree.{Want, Asks, Ends, IsOver, IsParked, Story, Says, Closes, StaysOver, Parks, want}
 use Rattle.flex_base.specs.Devices.{is_transmit, byte_of, sent_bytes}
-use Rattle.flex_base.specs.Parked.{Node, Busy, Parked, Gone}
-use Rattle.flex_base.specs.Unsplit.{Machine, Made, instruction_at, story_of, want_of, next_of, reply_to, begin, with_access, does, make, step, reach, reach_from, unsplit}
+use Rattle.flex_base.specs.Unsplit.{Machine, Made, story_of, want_of, next_of, reply_to, begin, with_access, make, step, reach, reach_from, unsplit}
 use Rattle.flex_base.specs.EndOfRun.{events_of}
 use Rattle.flex_base.specs.Journal.{sent}
 use Rattle.flex_base.specs.declared.access.Access.{Access}
 use Rattle.flex_base.specs.declared.access.Access.TheVariants as acc
 use Rattle.flex_base.specs.declared.access.Reply.{Reply}
 use Rattle.flex_base.proofs.Machines.{reach-cons, reach-none, reach_push, next_asks, step_is}
-use Rattle.flex_base.proofs.Orders.{Plain, None, More, added}
+use Rattle.flex_base.proofs.Orders.{Plain, More, added}
 use Rattle.flex_base.proofs.Totals.{total, total_more, total_most}
 use Rattle.flex_base.proofs.Sending.{sent-none, sent-append, bytes_of, sent_access, sent_end, sent_of, sent_bytes_access, no_bytes}
-use Rattle.flex_base.proofs.Standing.{Stands, Works, Retires, Retired, closing, AllStand, all_stand}
+use Rattle.flex_base.proofs.Standing.{Stands, Works, Retires, Retired, closing, all_stand}
 use Rattle.flex_base.proofs.EndOfRun.{stands_sends}
 
 -- The same bytes.
@@ -79,8 +78,13 @@ sent_total harts (m ∷ made) (More same rest plain below plains) =
     let one = length (sent (m ∷ [])) in
     let all = ap length (sent-append (m ∷ []) made) ∙ length-append (sent (m ∷ [])) (sent made) in
     let own = sent_of-cons m.hart m made true (eq-eqb m.hart m.hart refl) in
-    omega (arith, all, sent_total harts made plains, total_more (λ h. sent_of h made) (λ h. sent_of h (m ∷ made)) harts m.hart one below
-    (λ k within. grows_by (m.hart == k) one (sent_of k made) (sent_of k (m ∷ made)) (sent_of-cons k m made (m.hart == k) refl)) (omega (arith, own)))
+    omega (
+      arith,
+      all,
+      sent_total harts made plains,
+      total_more (λ h. sent_of h made) (λ h. sent_of h (m ∷ made)) harts m.hart one below
+          (λ k within. grows_by (m.hart == k) one (sent_of k made) (sent_of k (m ∷ made)) (sent_of-cons k m made (m.hart == k) refl)) (omega (arith, own)),
+    )
 
 -- all harts together transmit at most as many bytes as they may make ends
 pub sent_fewer : (setup : Setup) (order : List ℕ) → length (sent (unsplit setup order)) ≤ setup.harts * setup.budget
@@ -88,7 +92,7 @@ sent_fewer setup order =
     let all = added setup (begin setup) order in
     let same : unsplit setup order ≡ all.new = all.events in
     let few : total (λ h. sent_of h (unsplit setup order)) setup.harts ≤ setup.harts * setup.budget =
-        total_most (λ h. sent_of h (unsplit setup order)) setup.harts setup.budget (sent_few setup order) in
+    total_most (λ h. sent_of h (unsplit setup order)) setup.harts setup.budget (sent_few setup order) in
     omega (arith, few, sent_total setup.harts all.new all.plain, ap (λ made. length (sent made)) same, ap (λ made. total (λ h. sent_of h made) setup.harts) same)
 
 -- so there is room for the byte that a hart wants to transmit

@@ -1,35 +1,31 @@
 -- A run goes on until it has ended, and the rounds end it.
-use Rattle.std.proofs.Common.{◌≡◌, ◌≢◌, ℕ, ◌+◌, ◌-◌, ◌*◌, ◌<◌, ◌≤◌, zero, suc, Bool, true, false, if◌then◌else◌, nat_lt, List, [], ◌∷◌, ◌++◌, ◌==◌, length, filter, append-nil, append_assoc, length-append, Option, ◌⊎◌, inl, inr, refl, ap, sym, subst, ◌∙◌, arith}
+use Rattle.std.proofs.Common.{◌≡◌, ◌≢◌, ℕ, ◌+◌, ◌-◌, ◌<◌, ◌≤◌, zero, suc, Bool, true, false, if◌then◌else◌, nat_lt, List, [], ◌∷◌, ◌++◌, ◌==◌, length, append-nil, append_assoc, length-append, Option, ◌⊎◌, inl, inr, refl, ap, sym, subst, ◌∙◌, arith}
 use Rattle.std.specs.Prelude.{is_some, slice_index_or}
 use Rattle.std.specs.List.{list_all, range_with_len}
-use Rattle.std.proofs.Math.Nat.{mul-le-mul_right}
 use Rattle.std.proofs.lemmas.Bool.{cases_eq, cases_Bool, and_cases}
 use Rattle.std.proofs.lemmas.Bool.Decides.{nat_tests}
 use Rattle.std.proofs.lemmas.List.Elements.{filter-append}
 use Rattle.flex_base.specs.Setup.{Setup}
 use Rattle.flex_base.specs.StoryTree.{Want, Asks, Ends, IsOver, IsParked, Story, Says, Closes, StaysOver, Parks, want}
 use Rattle.flex_base.specs.FlatMemory.{is_ram_access}
-use Rattle.flex_base.specs.Devices.{DeviceState, is_woken, is_at_rest, hart_start, device_step, device_stop}
-use Rattle.flex_base.specs.DeviceLaws.{IsLive}
+use Rattle.flex_base.specs.Devices.{DeviceState, is_woken, is_at_rest, hart_start, device_stop}
 use Rattle.flex_base.specs.Parked.{node_of, Fits}
-use Rattle.flex_base.specs.Unsplit.{Machine, Made, does, story_of, want_of, next_of, resumes, is_woken_in, reply_to, begin, with_access, make, step, reach, reach_from, hart_numbers, is_idle, has_ended}
+use Rattle.flex_base.specs.Unsplit.{Machine, Made, story_of, want_of, next_of, resumes, is_woken_in, reply_to, begin, with_access, make, step, reach, reach_from, hart_numbers, is_idle, has_ended}
 use Rattle.flex_base.specs.Rounds.{turn_of, turns, repeated, most_events, most_rounds, rounds, names_played}
 use Rattle.flex_base.specs.EndOfRun.{HasNext, WaitsWoken, events_of, count_of, GoesOn}
 use Rattle.flex_base.specs.declared.access.Access.{Access}
 use Rattle.flex_base.specs.declared.access.Access.TheVariants as acc
 use Rattle.flex_base.specs.declared.access.Reply.{Reply}
-use Rattle.flex_base.specs.declared.event.EndPart.{EndPart}
 use Rattle.flex_base.specs.declared.event.Stop.{Stop}
-use Rattle.flex_base.specs.declared.event.What.{What}
 use Rattle.flex_base.specs.declared.event.What.TheVariants as what
 use Rattle.flex_base.specs.declared.hart_device.HartDevice.{HartDevice}
 use Rattle.flex_base.specs.declared.hart_device.HartStanding.{HartStanding}
 use Rattle.flex_base.specs.declared.hart_device.HartStanding.TheVariants as stand
-use Rattle.flex_base.proofs.Machines.{reach-cons, reach-append, reach-none, next_woken, step_is, step_over, step_unwoken, step_beyond, story_after_park, instruction_at-other, place_in}
+use Rattle.flex_base.proofs.Machines.{reach-cons, reach-append, reach-none, step_is, step_over, step_unwoken, step_beyond, story_after_park, instruction_at-other, place_in}
 use Rattle.flex_base.proofs.Orders.{added}
-use Rattle.flex_base.proofs.Turns.{story_parks, ended_all, idle_ended, stop_ended, some_number, turn_of-begins, turn_of-idle, turns_ended, turns_busy, turns-append}
+use Rattle.flex_base.proofs.Turns.{story_parks, ended_all, idle_ended, stop_ended, turn_of-begins, turn_of-idle, turns_ended, turns_busy, turns-append}
 use Rattle.flex_base.proofs.OwnReservations.{all_asks_reserved}
-use Rattle.flex_base.proofs.DeviceLaws.{devices_live, harts-devices, stop_stays}
+use Rattle.flex_base.proofs.DeviceLaws.{devices_live, harts-devices}
 use Rattle.flex_base.proofs.Fitting.{standing_in, still_stopped}
 use Rattle.flex_base.proofs.Totals.{total, total_least, total_more, total_most}
 use Rattle.flex_base.proofs.Sending.{count_own, sent_of}
@@ -225,9 +221,9 @@ round_makes setup u a (suc m) h all from below going busy = elim (cases_Bool (is
   | inl idle ↦
       let rest = range_with_len (a + 1) m in
       let names : turns setup u (range_with_len a (suc m)) ≡ turns setup u rest =
-          turns_busy setup u a rest going
-          ∙ ap (λ ns. ns ++ turns setup (reach_from setup u ns) rest) (turn_of-idle setup u a idle)
-          ∙ ap (λ v. turns setup v rest) (reach-none setup u) in
+      turns_busy setup u a rest going
+      ∙ ap (λ ns. ns ++ turns setup (reach_from setup u ns) rest) (turn_of-idle setup u a idle)
+      ∙ ap (λ v. turns setup v rest) (reach-none setup u) in
       let other : h ≢ a = λ same. let idle_h = ap (λ j. is_idle (next_of setup u j)) same ∙ idle in cc in
       let At : List ℕ → Type 0 = λ ns. made_in setup u + 1 ≤ made_in setup (reach_from setup u ns) in
       subst At (sym names) (round_makes setup u (a + 1) m h (omega (arith, all)) (omega (arith, from, other)) below going busy)
@@ -236,11 +232,15 @@ round_makes setup u a (suc m) h all from below going busy = elim (cases_Bool (is
       let turn = turn_of-begins setup u a goes in
       let more = turns setup (reach_from setup u (turn_of setup u a)) rest in
       let names : turns setup u (range_with_len a (suc m)) ≡ a ∷ (turn.0 ++ more) =
-          turns_busy setup u a rest going ∙ ap (λ ns. ns ++ more) turn.1 in
+      turns_busy setup u a rest going ∙ ap (λ ns. ns ++ more) turn.1 in
       let At : List ℕ → Type 0 = λ ns. made_in setup u + 1 ≤ made_in setup (reach_from setup u ns) in
       subst At (sym names)
-      (omega (arith, made_step setup u a (omega (arith, all)) goes, made_from setup (step setup u a) (turn.0 ++ more),
-      ap (made_in setup) (reach-cons setup u a (turn.0 ++ more))))
+      (omega (
+        arith,
+        made_step setup u a (omega (arith, all)) goes,
+        made_from setup (step setup u a) (turn.0 ++ more),
+        ap (made_in setup) (reach-cons setup u a (turn.0 ++ more)),
+      ))
 ]
 
 -- in each round of a run that hasn't ended some hart makes an event

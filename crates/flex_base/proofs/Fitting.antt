@@ -307,7 +307,7 @@ pulse_runs s h tick within awake =
     let now : DeviceState = record s { mtime = next_mtime s.mtime tick } in
     let running = runs_if_woken now h in
     let runs : standing_in running h ≡ stand.Runs = runs_if h (is_woken (standing_in now h)) (stands_as now h stand.Runs) now
-        (standing-own now h (record (hart_at now h) { standing = stand.Runs }) within) (awake_by (standing_in now h) awake) in
+    (standing-own now h (record (hart_at now h) { standing = stand.Runs }) within) (awake_by (standing_in now h) awake) in
     let After : HartStanding → Type 0 = λ x. IsAfter x (standing_in (wakes running) h) in
     subst After runs (after_wakes running h (omega (arith, harts-runs_if_woken now h, within)))
 

@@ -179,8 +179,11 @@ updates_csr_leads a n does rd rs1 number old =
 asks_csr_leads : (a : State) (n : ℕ) (does : CsrOp) (rd rs1 number : ℕ) → Leads (suc (suc n)) a.ends (asks_csr a does rd rs1 number)
 asks_csr_leads a n does rd rs1 number =
     either_leads (suc (suc n)) a.ends (is_pending_csr number) _ _
-    (λ reply told. (tt, pulse_leads (suc n) a.ends reply _ told
-    (updates_csr_leads (record a { lines = reply.lines }) n does rd rs1 number (csr_value a number reply.lines 0))))
+    (λ reply told. (
+      tt,
+      pulse_leads (suc n) a.ends reply _ told
+          (updates_csr_leads (record a { lines = reply.lines }) n does rd rs1 number (csr_value a number reply.lines 0)),
+    ))
     (either_leads (suc (suc n)) a.ends (number == CSR_TIME) _ _
     (λ reply told. (tt, updates_csr_leads a n does rd rs1 number (csr_value a number 0 reply.value)))
     (updates_csr_leads a (suc n) does rd rs1 number (csr_value a number 0 0)))

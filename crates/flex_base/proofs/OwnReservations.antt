@@ -10,7 +10,7 @@ use Rattle.flex_base.specs.Place.{in_ram, place_of}
 use Rattle.flex_base.specs.Word.{wrap, is_multiple}
 use Rattle.flex_base.specs.Decoding.{decoded}
 use Rattle.flex_base.specs.FlatMemory.{Done, reservation_set, is_reserved, is_ram_access}
-use Rattle.flex_base.specs.StoryTree.{Want, Asks, Ends, IsOver, IsParked, Story, Says, Closes, StaysOver, Parks, goes, want, after_one, after_park}
+use Rattle.flex_base.specs.StoryTree.{Want, Asks, Ends, IsOver, IsParked, Story, Says, Closes, StaysOver, Parks, goes, want, after_park}
 use Rattle.flex_base.specs.Ends.{jumps, ends, computes, passes, traps, traps_illegal, returns, concludes}
 use Rattle.flex_base.specs.Translating.{translates}
 use Rattle.flex_base.specs.Story.{story, pulses, after_pulse, begins, interrupted_by, fetches, fetches_at, works, branches, is_taken, supervises, is_machine, closes_csr, updates_csr, asks_csr, uses_csr, fences_memory, at_place, has_pending, ends_wait, after_wait, waits, reaches, in_ram_at, loads_at, stores_at, loads_reserved_at, stores_conditional_at, modifies_at, is_tick}
@@ -20,7 +20,7 @@ use Rattle.flex_base.specs.Zicsr.{CSR_TIME, reads_csr, writes_csr, csr_operand, 
 use Rattle.flex_base.specs.declared.class.Class.TheVariants as class
 use Rattle.flex_base.specs.declared.operation.CsrOp.{CsrOp}
 use Rattle.flex_base.specs.Unsplit.{Machine, story_of, want_of, next_of, is_woken_in, reply_to, begin, make, step, reach, reach_from, with_access}
-use Rattle.flex_base.specs.Reservations.{reserving, own_after, own_reservation, IsOwn, asked, accesses_in, AsksReserved}
+use Rattle.flex_base.specs.Reservations.{reserving, own_after, own_reservation, IsOwn, accesses_in, AsksReserved}
 use Rattle.flex_base.specs.declared.access.Access.{Access}
 use Rattle.flex_base.specs.declared.access.Access.TheVariants as acc
 use Rattle.flex_base.specs.declared.access.Reply.{Reply}

@@ -1,5 +1,5 @@
 -- How each hart stands in every state that an order leads to.
-use Rattle.std.proofs.Common.{◌≡◌, ◌≢◌, ℕ, ◌+◌, ◌*◌, ◌<◌, ◌≤◌, zero, suc, Bool, true, false, if◌then◌else◌, nat_lt, List, [], ◌∷◌, ◌++◌, ◌==◌, fold, length, Option, ◌⊎◌, inl, inr, refl, ap, sym, subst, ◌∙◌, arith}
+use Rattle.std.proofs.Common.{◌≡◌, ◌≢◌, ℕ, ◌+◌, ◌*◌, ◌<◌, ◌≤◌, suc, Bool, true, false, if◌then◌else◌, nat_lt, List, [], ◌∷◌, ◌==◌, length, Option, ◌⊎◌, inl, inr, refl, ap, sym, subst, ◌∙◌, arith}
 use Rattle.std.proofs.lemmas.Bool.{cases_eq, cases_Bool}
 use Rattle.std.proofs.lemmas.Bool.Decides.{nat_tests}
 use Rattle.std.proofs.lemmas.List.FromFn.{length-map-range_with_len}
@@ -10,10 +10,10 @@ use Rattle.flex_base.specs.State.{State, start}
 use Rattle.flex_base.specs.FlatMemory.{Done, is_ram_access, flat}
 use Rattle.flex_base.specs.StoryTree.{Want, Asks, Ends, IsOver, IsParked, Story, Says, Closes, StaysOver, Parks, want, after_park}
 use Rattle.flex_base.specs.Story.{story, pulses}
-use Rattle.flex_base.specs.Devices.{DeviceState, is_transmit, is_woken, byte_of, hart_start, device_step, reply_in, input_left, reply_after, devices, devices_start, device_stop}
+use Rattle.flex_base.specs.Devices.{DeviceState, is_transmit, is_woken, byte_of, hart_start, device_step, reply_in, input_left, reply_after, devices, devices_start}
 use Rattle.flex_base.specs.DeviceLaws.{AreBelow}
 use Rattle.flex_base.specs.Parked.{Node, Busy, Parked, Gone, node_of, told_node, next_node, Fits, MayMake}
-use Rattle.flex_base.specs.Unsplit.{Machine, Instruction, Made, instruction_from, instruction_at, story_of, want_of, next_of, is_woken_in, reply_to, begin, make, with_access, does, step, reach, reach_from}
+use Rattle.flex_base.specs.Unsplit.{Machine, Instruction, instruction_from, instruction_at, story_of, next_of, is_woken_in, reply_to, begin, make, with_access, step, reach, reach_from}
 use Rattle.flex_base.specs.Rounds.{most_events}
 use Rattle.flex_base.specs.EndOfRun.{events_of, count_of}
 use Rattle.flex_base.specs.Journal.{sent}
@@ -22,16 +22,15 @@ use Rattle.flex_base.specs.declared.access.Access.TheVariants as acc
 use Rattle.flex_base.specs.declared.access.Reply.{Reply}
 use Rattle.flex_base.specs.declared.event.Stop.{Stop}
 use Rattle.flex_base.specs.declared.event.EndPart.{EndPart}
-use Rattle.flex_base.specs.declared.event.What.{What}
 use Rattle.flex_base.specs.declared.event.What.TheVariants as what
 use Rattle.flex_base.specs.declared.hart_device.HartDevice.{HartDevice}
 use Rattle.flex_base.specs.declared.hart_device.HartStanding.{HartStanding}
 use Rattle.flex_base.specs.declared.hart_device.HartStanding.TheVariants as stand
-use Rattle.flex_base.proofs.Machines.{instruction_at-begin, Stays, Adds, step_steps, reach-cons, reach-none, next_asks, next_ends, next_over, next_woken, next_unwoken, step_is, step_over, step_unwoken, step_beyond, instruction_after_access, story_after_access, story_after_park, instruction_after_end, instruction_at-other, length-step, place_in}
+use Rattle.flex_base.proofs.Machines.{instruction_at-begin, Stays, Adds, step_steps, reach-cons, reach-none, next_asks, next_ends, next_woken, step_is, step_over, step_unwoken, instruction_after_access, story_after_access, story_after_park, instruction_after_end, instruction_at-other, length-step, place_in}
 use Rattle.flex_base.proofs.Stories.{retires, story_spent, story_unspent}
 use Rattle.flex_base.proofs.Leading.{IsTold, EndsAfter, LeadsAs, Leads, leads_node, pulses_leads}
 use Rattle.flex_base.proofs.Sending.{sent-none, bytes_of, events-other, count_own, sent_of, sent_own_access, sent_own_end}
-use Rattle.flex_base.proofs.DeviceLaws.{harts_in, harts-devices}
+use Rattle.flex_base.proofs.DeviceLaws.{harts-devices}
 use Rattle.flex_base.proofs.Fitting.{standing_in, fits_own, fits_other, pulse_told}
 
 -- The events of a hart by a step of another one.

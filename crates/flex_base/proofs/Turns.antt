@@ -1,13 +1,12 @@
 -- Turns, rounds and the end of a run.
-use Rattle.std.proofs.Common.{◌≡◌, ℕ, ◌+◌, ◌<◌, ◌≤◌, zero, suc, Bool, true, false, ◌==◌, ◌&&◌, if◌then◌else◌, nat_lt, List, [], ◌∷◌, ◌++◌, length, Option, None, Some, ◌⊎◌, inl, inr, refl, ap, sym, ◌∙◌, arith, append_assoc}
+use Rattle.std.proofs.Common.{◌≡◌, ℕ, ◌+◌, ◌<◌, ◌≤◌, zero, suc, Bool, true, false, ◌==◌, ◌&&◌, if◌then◌else◌, List, [], ◌∷◌, ◌++◌, length, ◌⊎◌, inl, inr, refl, ap, sym, ◌∙◌, arith, append_assoc}
 use Rattle.std.proofs.lemmas.Bool.{cases_eq, cases_Bool, and_parts}
-use Rattle.std.proofs.lemmas.Bool.Decides.{nat_tests}
 use Rattle.std.specs.Prelude.{is_some}
 use Rattle.std.specs.List.{list_all, range_with_len}
 use Rattle.flex_base.specs.Setup.{Setup}
 use Rattle.flex_base.specs.State.{State}
-use Rattle.flex_base.specs.StoryTree.{Want, Asks, Ends, IsOver, IsParked, Story, Says, Closes, StaysOver, Parks, want, after_park}
-use Rattle.flex_base.specs.Unsplit.{Machine, instruction_at, story_of, want_of, next_of, resumes, is_woken_in, reply_to, step, reach_from, hart_numbers, is_over, is_idle, has_ended}
+use Rattle.flex_base.specs.StoryTree.{Want, Asks, Ends, IsOver, IsParked, Story, Says, Closes, StaysOver, Parks, want}
+use Rattle.flex_base.specs.Unsplit.{Machine, story_of, want_of, next_of, resumes, is_woken_in, reply_to, step, reach_from, hart_numbers, is_over, is_idle, has_ended}
 use Rattle.flex_base.specs.Devices.{device_stop}
 use Rattle.flex_base.specs.Rounds.{turn, turn_of, turns}
 use Rattle.flex_base.specs.declared.access.Access.{Access}

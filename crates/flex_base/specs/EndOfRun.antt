@@ -1,5 +1,5 @@
 -- A run goes on until it has ended, and no hart goes on for ever.
-use Rattle.std.specs.Prelude.{◌≡◌, ℕ, ◌*◌, ◌<◌, ◌≤◌, ◌⊎◌, ◌==◌, true, false, List, ◌++◌, filter, length}
+use Rattle.std.specs.Prelude.{◌≡◌, ℕ, ◌<◌, ◌≤◌, ◌⊎◌, ◌==◌, true, false, List, ◌++◌, filter, length}
 use Rattle.flex_base.specs.Setup.{Setup}
 use Rattle.flex_base.specs.StoryTree.{IsParked}
 use Rattle.flex_base.specs.Unsplit.{Machine, Made, want_of, next_of, is_woken_in, is_idle, has_ended, step, reach, unsplit}

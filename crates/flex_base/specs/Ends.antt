@@ -1,5 +1,5 @@
 -- The ends of instructions.
-use Rattle.std.specs.Prelude.{ℕ, ◌+◌, Bool, true, false, ◌||◌, ◌==◌, if◌then◌else◌, Option, None}
+use Rattle.std.specs.Prelude.{ℕ, ◌+◌, Bool, true, false, ◌||◌, ◌==◌, if◌then◌else◌, None}
 use Rattle.flex_base.specs.Word.{wrap, is_multiple}
 use Rattle.flex_base.specs.Causes.{instruction_address_misaligned, illegal_instruction}
 use Rattle.flex_base.specs.Traps.{Transfer, trap, count}

@@ -1,5 +1,5 @@
 -- Journals: the events of a split run, handovers among them.
-use Rattle.std.specs.Prelude.{◌≡◌, ℕ, Bool, true, false, not, ◌==◌, if◌then◌else◌, List, map, filter, length}
+use Rattle.std.specs.Prelude.{◌≡◌, ℕ, Bool, true, false, not, if◌then◌else◌, List, map, filter, length}
 use Rattle.std.specs.List.{filter_map, range_with_len}
 use Rattle.std.specs.Prelude.{Option, None, Some}
 use Rattle.flex_base.specs.Setup.{Setup}

@@ -1,6 +1,6 @@
 -- The rounds: the harts in rising order, again and again, each up to and including its next end, or until it has no next
 -- event.
-use Rattle.std.specs.Prelude.{ℕ, ◌+◌, ◌*◌, zero, suc, true, false, if◌then◌else◌, List, [], ◌∷◌, ◌++◌}
+use Rattle.std.specs.Prelude.{ℕ, ◌+◌, ◌*◌, zero, suc, false, if◌then◌else◌, List, [], ◌∷◌, ◌++◌}
 use Rattle.flex_base.specs.Setup.{Setup}
 use Rattle.flex_base.specs.StoryTree.{Story, Says, Closes, StaysOver, Parks}
 use Rattle.flex_base.specs.Unsplit.{Machine, story_of, is_woken_in, reply_to, step, reach, reach_from, has_ended, hart_numbers}

@@ -1,5 +1,5 @@
 -- The story of one instruction: what a hart does, from the state at the start and the replies so far.
-use Rattle.std.specs.Prelude.{ℕ, ◌+◌, ◌-◌, ◌*◌, ◌%◌, Bool, true, false, not, ◌&&◌, ◌==◌, nat_lt, if◌then◌else◌, List, [], ◌∷◌, slice_index, bit_and, Option, None, Some}
+use Rattle.std.specs.Prelude.{ℕ, ◌+◌, ◌-◌, ◌*◌, ◌%◌, Bool, true, false, not, ◌&&◌, ◌==◌, nat_lt, if◌then◌else◌, List, [], slice_index, bit_and, Option, None, Some}
 use Rattle.flex_base.specs.Word.{wrap, low, sign_extend, is_multiple, is_set}
 use Rattle.flex_base.specs.Place.{in_ram, place_of}
 use Rattle.flex_base.specs.Causes.{instruction_access_fault, breakpoint, load_access_fault, store_access_fault, misaligned, access_fault, ecall_from}
@@ -13,12 +13,10 @@ use Rattle.std.specs.Int.{w64}
 use Rattle.flex_base.specs.State.{State, reg, set_reg}
 use Rattle.flex_base.specs.Setup.{Setup}
 use Rattle.flex_base.specs.StoryTree.{Want, Story, Says, StaysOver, Parks, goes, want}
-use Rattle.flex_base.specs.Ends.{finishes, told_of, ends, traps, traps_illegal, returns, jumps, computes, passes, computes_device, passes_device, concludes}
+use Rattle.flex_base.specs.Ends.{finishes, told_of, traps, traps_illegal, returns, jumps, computes, passes, computes_device, passes_device, concludes}
 use Rattle.flex_base.specs.Translating.{translates}
-use Rattle.flex_base.specs.declared.access.Access.{Access}
 use Rattle.flex_base.specs.declared.access.Access.TheVariants as acc
 use Rattle.flex_base.specs.declared.access.Reply.{Reply}
-use Rattle.flex_base.specs.declared.class.Class.{Class}
 use Rattle.flex_base.specs.declared.class.Class.TheVariants as class
 use Rattle.flex_base.specs.declared.hart.Mode.{Mode}
 use Rattle.flex_base.specs.declared.hart.Mode.TheVariants as mode
