@@ -23,3 +23,4 @@ pub mod Fitting
 pub mod Waking
 pub mod Idle
 pub mod Timing
+mod Examples
