@@ -7,16 +7,20 @@ pub mod Turns
 pub mod Translating
 pub mod Walked
 pub mod Leading
+pub mod Totals
+pub mod Sending
 pub mod Standing
-pub mod Quiet
 pub mod OwnReservations
 pub mod StandingReservations
 pub mod EndOfRun
+pub mod Console
 pub mod EndClass
 pub mod KnownBytes
 pub mod DevicePlaces
 pub mod Alarms
 pub mod DeviceLaws
+pub mod Fitting
 pub mod Waking
 pub mod Idle
 pub mod Timing
+mod Examples

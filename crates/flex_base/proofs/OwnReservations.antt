@@ -1,6 +1,6 @@
 -- A store-conditional is asked only after a load-reserved of the same 8 bytes, whatever the order of the harts.
 use Rattle.std.proofs.Common.{◌≡◌, ◌≢◌, ℕ, ◌+◌, ◌<◌, Bool, true, false, if◌then◌else◌, nat_lt, List, [], ◌∷◌, ◌==◌, fold, length, Option, None, Some, inl, inr, refl, ap, sym, subst, ◌∙◌, arith, eq-eqb}
-use Rattle.std.proofs.lemmas.Bool.{cases_eq, ne_eqb}
+use Rattle.std.proofs.lemmas.Bool.{cases_eq, cases_Bool, ne_eqb}
 use Rattle.std.proofs.lemmas.Bool.Decides.{nat_tests}
 use Rattle.std.proofs.lemmas.List.Sums.{fold_push}
 use Rattle.flex_base.specs.Causes.{instruction_address_misaligned, instruction_access_fault, load_access_fault, store_access_fault, misaligned, access_fault}
@@ -10,16 +10,16 @@ use Rattle.flex_base.specs.Place.{in_ram, place_of}
 use Rattle.flex_base.specs.Word.{wrap, is_multiple}
 use Rattle.flex_base.specs.Decoding.{decoded}
 use Rattle.flex_base.specs.FlatMemory.{Done, reservation_set, is_reserved, is_ram_access}
-use Rattle.flex_base.specs.StoryTree.{Want, Asks, Ends, IsOver, IsLater, Story, Says, Closes, StaysOver, ComesLater, goes, want}
+use Rattle.flex_base.specs.StoryTree.{Want, Asks, Ends, IsOver, IsParked, Story, Says, Closes, StaysOver, Parks, goes, want, after_park}
 use Rattle.flex_base.specs.Ends.{jumps, ends, computes, passes, traps, traps_illegal, returns, concludes}
 use Rattle.flex_base.specs.Translating.{translates}
-use Rattle.flex_base.specs.Story.{story, pulses, after_pulse, begins, interrupted_by, fetches, fetches_at, works, branches, is_taken, supervises, is_machine, closes_csr, updates_csr, asks_csr, uses_csr, fences_memory, at_place, reaches, in_ram_at, loads_at, stores_at, loads_reserved_at, stores_conditional_at, modifies_at, is_tick}
+use Rattle.flex_base.specs.Story.{story, pulses, after_pulse, begins, interrupted_by, fetches, fetches_at, works, branches, is_taken, supervises, is_machine, closes_csr, updates_csr, asks_csr, uses_csr, fences_memory, at_place, has_pending, ends_wait, after_wait, waits, reaches, in_ram_at, loads_at, stores_at, loads_reserved_at, stores_conditional_at, modifies_at, is_tick}
 use Rattle.flex_base.specs.Csrs.{TVM, TW, TSR}
 use Rattle.flex_base.specs.Traps.{mret, sret, takeable}
 use Rattle.flex_base.specs.Zicsr.{CSR_TIME, reads_csr, writes_csr, csr_operand, csr_result, may_use_csr, is_pending_csr, csr_value}
 use Rattle.flex_base.specs.declared.class.Class.TheVariants as class
 use Rattle.flex_base.specs.declared.operation.CsrOp.{CsrOp}
-use Rattle.flex_base.specs.Unsplit.{Machine, story_of, want_of, reply_to, begin, make, step, reach, reach_from, with_access}
+use Rattle.flex_base.specs.Unsplit.{Machine, story_of, want_of, next_of, is_woken_in, reply_to, begin, make, step, reach, reach_from, with_access}
 use Rattle.flex_base.specs.Reservations.{reserving, own_after, own_reservation, IsOwn, accesses_in, AsksReserved}
 use Rattle.flex_base.specs.declared.access.Access.{Access}
 use Rattle.flex_base.specs.declared.access.Access.TheVariants as acc
@@ -33,7 +33,7 @@ use Rattle.flex_base.specs.declared.translation.Kind.{Kind}
 use Rattle.flex_base.specs.declared.translation.Kind.TheVariants as kind
 use Rattle.flex_base.specs.declared.translation.Leaf.{Leaf}
 use Rattle.flex_base.proofs.Translating.{PassesWalks, translates_has}
-use Rattle.flex_base.proofs.Machines.{instruction_at-begin, reach-cons, reach-none, step_is, instruction_after_end, instruction_at-other, story_after_access, place_in}
+use Rattle.flex_base.proofs.Machines.{instruction_at-begin, reach-cons, reach-none, next_asks, next_ends, next_woken, step_is, step_over, step_unwoken, instruction_after_end, instruction_at-other, story_after_access, story_after_park, place_in}
 use Rattle.flex_base.proofs.Standing.{AllStand, all_step, all_begin}
 use Rattle.flex_base.proofs.Stories.{retires, goes_on}
 
@@ -49,17 +49,17 @@ abbrev pub Reserves : Option ℕ → Story → Type 0
 Reserves own (Says access next) = AsksFrom own access × ((reply : Reply) → Reserves (reserving own access) (next reply))
 Reserves own (Closes part after) = IsOwn own after.reservation
 Reserves own StaysOver = Unit {0}
-Reserves own ComesLater = Unit {0}
+Reserves own (Parks wakes) = (lines : ℕ) → Reserves own (wakes lines)
 
 either : (own : Option ℕ) (b : Bool) (s t : Story) → Reserves own s → Reserves own t → Reserves own (if b then s else t)
 either own true s t first second = first
 either own false s t first second = second
 
-at_place_reserves : (own : Option ℕ) (p : Place) (access fault : Story) → Reserves own access → Reserves own fault
-    → Reserves own (at_place p access fault)
-at_place_reserves own place.Ram access fault first second = first
-at_place_reserves own place.Device access fault first second = tt
-at_place_reserves own place.Nowhere access fault first second = second
+at_place_reserves : (own : Option ℕ) (p : Place) (access device fault : Story) → Reserves own access → Reserves own device → Reserves own fault
+    → Reserves own (at_place p access device fault)
+at_place_reserves own place.Ram access device fault first second third = first
+at_place_reserves own place.Device access device fault first second third = second
+at_place_reserves own place.Nowhere access device fault first second third = third
 
 -- no reservation is anybody's
 none_own : (own : Option ℕ) → IsOwn own None
@@ -85,10 +85,10 @@ module _ (setup : Setup) (own : Option ℕ) (a : State) (held : IsOwn own a.rese
   reaches_reserves k width va access reserves =
       either own (is_multiple va width) _ (traps a (misaligned k) va) (translates_reserves k va access reserves) held
 
-  placed_reserves : (p : Place) (leaves : List Leaf) (cause va : ℕ) (access : Story) → Reserves own access
-      → Reserves own (at_place p access (traps (record a { leaves = leaves }) cause va))
-  placed_reserves p leaves cause va access reserves =
-      at_place_reserves own p access (traps (record a { leaves = leaves }) cause va) reserves held
+  placed_reserves : (p : Place) (leaves : List Leaf) (cause va : ℕ) (access device : Story) → Reserves own access → Reserves own device
+      → Reserves own (at_place p access device (traps (record a { leaves = leaves }) cause va))
+  placed_reserves p leaves cause va access device first second =
+      at_place_reserves own p access device (traps (record a { leaves = leaves }) cause va) first second held
 
   in_ram_reserves : (k : Kind) (leaves : List Leaf) (width va address : ℕ) (access : Story) → Reserves own access
       → Reserves own (in_ram_at setup (record a { leaves = leaves }) k width va address access)
@@ -134,6 +134,16 @@ module _ (setup : Setup) (own : Option ℕ) (a : State) (held : IsOwn own a.rese
       (either own (reads_csr does rd) _ _ (asks_csr_reserves does rd rs1 number)
       (updates_csr_reserves a.lines does rd rs1 number 0)) held
 
+  after_wait_reserves : (reply : Reply) → Reserves own (after_wait a reply)
+  after_wait_reserves reply =
+      either own reply.stop StaysOver _ tt
+      (either own (reply.value == 1) (Parks (ends_wait a)) (ends_wait a reply.lines) (λ lines. held) held)
+
+  waits_reserves : Reserves own (waits a)
+  waits_reserves =
+      either own (has_pending a.csrs) _ _
+      (tt, λ reply. either own reply.stop StaysOver (ends_wait a reply.lines) tt held) (tt, after_wait_reserves)
+
   works_reserves : (word : ℕ) (o : Op) → Reserves own (works setup a word o)
   works_reserves word (op.Lui rd imm) = held
   works_reserves word (op.Auipc rd imm) = held
@@ -147,11 +157,11 @@ module _ (setup : Setup) (own : Option ℕ) (a : State) (held : IsOwn own a.rese
   works_reserves word (op.Load width signed rd rs1 imm) =
       let va = wrap (reg a.x rs1 + imm) in
       reaches_reserves kind.Load width va (loads_at setup width signed rd va) (λ leaves address.
-      placed_reserves (place_of setup.harts setup.ram address width) leaves load_access_fault va _ (tt, λ reply. held))
+      placed_reserves (place_of setup.harts setup.ram address width) leaves load_access_fault va _ _ (tt, λ reply. held) (tt, λ reply. held))
   works_reserves word (op.Store width rs1 rs2 imm) =
       let va = wrap (reg a.x rs1 + imm) in
       reaches_reserves kind.Store width va (stores_at setup width (reg a.x rs2) va) (λ leaves address.
-      placed_reserves (place_of setup.harts setup.ram address width) leaves store_access_fault va _ (tt, λ reply. held))
+      placed_reserves (place_of setup.harts setup.ram address width) leaves store_access_fault va _ _ (tt, λ reply. held) (tt, λ reply. held))
   works_reserves word (op.Lr width rd rs1 aq rl) =
       let va = reg a.x rs1 in
       reaches_reserves kind.Load width va (loads_reserved_at setup width rd va) (λ leaves address.
@@ -174,7 +184,7 @@ module _ (setup : Setup) (own : Option ℕ) (a : State) (held : IsOwn own a.rese
       either own (is_machine a.mode) (returns a (mret a.csrs)) (traps_illegal a word) held held
   works_reserves word op.Sret =
       either own (supervises TSR a.csrs a.mode) (returns a (sret a.csrs)) (traps_illegal a word) held held
-  works_reserves word op.Wfi = either own (supervises TW a.csrs a.mode) ComesLater (traps_illegal a word) tt held
+  works_reserves word op.Wfi = either own (supervises TW a.csrs a.mode) (waits a) (traps_illegal a word) waits_reserves held
   works_reserves word (op.SfenceVma rs1 rs2) =
       either own (supervises TVM a.csrs a.mode) (fences_memory a) (traps_illegal a word) held held
   works_reserves word (op.Illegal whole) = held
@@ -206,24 +216,27 @@ pub story_reserves : (setup : Setup) (own : Option ℕ) (a : State) → IsOwn ow
 story_reserves setup own a held =
     either own (a.ends == setup.budget) retires (pulses setup a) (tt, λ reply. tt) (pulses_reserves setup own a held)
 
+-- where the pulse of a parked hart leads
+park_reserves : (own : Option ℕ) (wakes : ℕ → Story) (reply : Reply) → ((lines : ℕ) → Reserves own (wakes lines)) → Reserves own (after_park wakes reply)
+park_reserves own wakes reply reserves =
+    either own reply.stop StaysOver _ tt (either own (reply.value == 1) (Parks wakes) (wakes reply.lines) reserves (reserves reply.lines))
+
 -- at the end of an instruction the hart's reservation is what its own accesses lead to, or none
 pub ends_own : (own : Option ℕ) (s : Story) (replies : List Reply) (part : EndPart) (after : State) → Reserves own s
     → want (goes s replies) ≡ Ends part after → IsOwn (fold reserving own (accesses_in s replies)) after.reservation
 ends_own own (Says access next) [] part after reserves ends = absurd cc
-ends_own own (Says access next) (reply ∷ replies) part after reserves ends =
-    ends_own (reserving own access) (next reply) replies part after (reserves.1 reply) ends
 ends_own own (Closes made left) [] part after reserves ends =
     let same : left ≡ after = cc in
     let At : State → Type 0 = λ a. IsOwn own a.reservation in
     subst At same reserves
-ends_own own (Closes made left) (reply ∷ replies) part after reserves ends =
-    let same : left ≡ after = cc in
-    let At : State → Type 0 = λ a. IsOwn own a.reservation in
-    subst At same reserves
 ends_own own StaysOver [] part after reserves ends = absurd cc
-ends_own own StaysOver (reply ∷ replies) part after reserves ends = absurd cc
-ends_own own ComesLater [] part after reserves ends = absurd cc
-ends_own own ComesLater (reply ∷ replies) part after reserves ends = absurd cc
+ends_own own (Parks wakes) [] part after reserves ends = absurd cc
+ends_own own (Says access next) (reply ∷ replies) part after reserves ends =
+    ends_own (reserving own access) (next reply) replies part after (reserves.1 reply) ends
+ends_own own (Closes made left) (reply ∷ replies) part after reserves ends = ends_own own (Closes made left) replies part after reserves ends
+ends_own own StaysOver (reply ∷ replies) part after reserves ends = ends_own own StaysOver replies part after reserves ends
+ends_own own (Parks wakes) (reply ∷ replies) part after reserves ends =
+    ends_own own (after_park wakes reply) replies part after (park_reserves own wakes reply reserves) ends
 
 -- All harts, along an order.
 
@@ -262,12 +275,12 @@ other_ram setup u h k (Asks access) other =
     own_made u.ram h k access (reply_to setup u k access) (is_ram_access access) refl ∙ own_other h k (own_reservation u.ram h) access other
 other_ram setup u h k (Ends part after) other = refl
 other_ram setup u h k IsOver other = refl
-other_ram setup u h k IsLater other = refl
+other_ram setup u h k IsParked other = refl
 
 other_step : (setup : Setup) (u : Machine) (h k : ℕ) → h ≢ k → own_reservation (step setup u k).ram h ≡ own_reservation u.ram h
 other_step setup u h k other =
-    elim (nat_lt k setup.harts) as (λ b. own_reservation (if b then make setup u k (want_of setup u k) else u).ram h ≡ own_reservation u.ram h)
-    [ true ↦ other_ram setup u h k (want_of setup u k) other | false ↦ refl ]
+    elim (nat_lt k setup.harts) as (λ b. own_reservation (if b then make setup u k (next_of setup u k) else u).ram h ≡ own_reservation u.ram h)
+    [ true ↦ other_ram setup u h k (next_of setup u k) other | false ↦ refl ]
 
 -- where a hart is, by its own reservation and its story
 reserves_at : (setup : Setup) (u : Machine) (h : ℕ) (own : Option ℕ) (s : Story) → own_reservation u.ram h ≡ own → story_of setup u h ≡ s
@@ -284,26 +297,35 @@ own_step setup u h (Says access next) below within says reserves =
     let reply = reply_to setup u h access in
     let own = own_reservation u.ram h in
     reserves_at setup (step setup u h) h (reserving own access) (next reply)
-    (ap (λ (m : Machine). own_reservation m.ram h) (step_is setup u h (Asks access) below (ap want says))
+    (ap (λ (m : Machine). own_reservation m.ram h) (step_is setup u h (Asks access) below (next_asks setup u h access (ap want says)))
     ∙ (own_made u.ram h h access reply (is_ram_access access) refl ∙ own_same h own access))
     (story_after_access setup u h access next below within says)
     (reserves.1 reply)
 own_step setup u h (Closes part after) below within closes reserves =
     let own = own_reservation u.ram h in
     reserves_at setup (step setup u h) h own (story setup after)
-    (ap (λ (m : Machine). own_reservation m.ram h) (step_is setup u h (Ends part after) below (ap want closes)))
+    (ap (λ (m : Machine). own_reservation m.ram h) (step_is setup u h (Ends part after) below (next_ends setup u h part after (ap want closes))))
     (ap (place_in setup) (instruction_after_end setup u h part after below within (ap want closes)))
     (story_reserves setup own after reserves)
 own_step setup u h StaysOver below within over reserves =
-    let still : u ≡ step setup u h = sym (step_is setup u h IsOver below (ap want over)) in
+    let still : u ≡ step setup u h = sym (step_over setup u h below (ap want over)) in
     let At : Machine → Type 0 = λ m. Reserves (own_reservation m.ram h) (story_of setup m h) in
     let In : Story → Type 0 = λ s. Reserves (own_reservation u.ram h) s in
     subst At still (subst In (sym over) reserves)
-own_step setup u h ComesLater below within later reserves =
-    let still : u ≡ step setup u h = sym (step_is setup u h IsLater below (ap want later)) in
-    let At : Machine → Type 0 = λ m. Reserves (own_reservation m.ram h) (story_of setup m h) in
-    let In : Story → Type 0 = λ s. Reserves (own_reservation u.ram h) s in
-    subst At still (subst In (sym later) reserves)
+own_step setup u h (Parks wakes) below within parks reserves = elim (cases_Bool (is_woken_in setup u h)) [
+  | inl woken ↦
+      let reply = reply_to setup u h (acc.Pulse false) in
+      let own = own_reservation u.ram h in
+      reserves_at setup (step setup u h) h own (after_park wakes reply)
+      (ap (λ (m : Machine). own_reservation m.ram h) (step_is setup u h (Asks (acc.Pulse false)) below (next_woken setup u h (ap want parks) woken)))
+      (story_after_park setup u h wakes below within parks woken)
+      (park_reserves own wakes reply reserves)
+  | inr unwoken ↦
+      let still : u ≡ step setup u h = sym (step_unwoken setup u h below (ap want parks) unwoken) in
+      let At : Machine → Type 0 = λ m. Reserves (own_reservation m.ram h) (story_of setup m h) in
+      let In : Story → Type 0 = λ s. Reserves (own_reservation u.ram h) s in
+      subst At still (subst In (sym parks) reserves)
+]
 
 step_reserves : (setup : Setup) (u : Machine) (k : ℕ) → AllStand setup u → AllReserve setup u → AllReserve setup (step setup u k)
 step_reserves setup u k stand all = λ h below. elim (cases_eq h k) [
@@ -337,7 +359,7 @@ asks_reserved : (made : List Done) (h : ℕ) (s : Story) → Reserves (own_reser
 asks_reserved made h (Says access next) reserves = access_asks made h access reserves.0
 asks_reserved made h (Closes part after) reserves = tt
 asks_reserved made h StaysOver reserves = tt
-asks_reserved made h ComesLater reserves = tt
+asks_reserved made h (Parks wakes) reserves = tt
 
 -- in every state that an order leads to
 pub all_asks_reserved : (setup : Setup) (order : List ℕ) (h : ℕ) → h < setup.harts

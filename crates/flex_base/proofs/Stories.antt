@@ -4,26 +4,25 @@ use Rattle.std.proofs.lemmas.Bool.{ne_eqb}
 use Rattle.flex_base.specs.Setup.{Setup}
 use Rattle.flex_base.specs.State.{State}
 use Rattle.flex_base.specs.Decoding.{decoded}
-use Rattle.flex_base.specs.StoryTree.{Ends, Story, Says, Closes, StaysOver, ComesLater, goes, want, after_one}
+use Rattle.flex_base.specs.StoryTree.{Ends, Story, Says, Closes, StaysOver, goes, want, after_one}
 use Rattle.flex_base.specs.Story.{story, pulses, after_pulse, begins, works, is_tick, ask}
 use Rattle.flex_base.specs.declared.access.Access.TheVariants as acc
 use Rattle.flex_base.specs.declared.access.Reply.{Reply}
 use Rattle.flex_base.specs.declared.event.EndPart.{EndPart}
 
 pub goes_push : (s : Story) (replies : List Reply) (reply : Reply) → goes s (replies ++ reply ∷ []) ≡ after_one (goes s replies) reply
-goes_push (Says access next) [] reply = refl
-goes_push (Says access next) (r ∷ replies) reply = goes_push (next r) replies reply
-goes_push (Closes part after) [] reply = refl
-goes_push (Closes part after) (r ∷ replies) reply = refl
-goes_push StaysOver [] reply = refl
-goes_push StaysOver (r ∷ replies) reply = refl
-goes_push ComesLater [] reply = refl
-goes_push ComesLater (r ∷ replies) reply = refl
+goes_push s [] reply = refl
+goes_push s (first ∷ replies) reply = goes_push (after_one s first) replies reply
 
 -- a hart that is over stays so
 pub goes-StaysOver : (replies : List Reply) → goes StaysOver replies ≡ StaysOver
 goes-StaysOver [] = refl
-goes-StaysOver (reply ∷ replies) = refl
+goes-StaysOver (reply ∷ replies) = goes-StaysOver replies
+
+-- and one that comes to its end stays there
+pub goes-Closes : (part : EndPart) (after : State) (replies : List Reply) → goes (Closes part after) replies ≡ Closes part after
+goes-Closes part after [] = refl
+goes-Closes part after (reply ∷ replies) = goes-Closes part after replies
 
 -- The story by its first event.
 

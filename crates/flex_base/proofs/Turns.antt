@@ -1,21 +1,19 @@
 -- Turns, rounds and the end of a run.
-use Rattle.std.proofs.Common.{◌≡◌, ℕ, ◌+◌, ◌<◌, ◌≤◌, zero, suc, Bool, true, false, ◌&&◌, if◌then◌else◌, nat_lt, List, [], ◌∷◌, ◌++◌, length, Option, None, Some, ◌⊎◌, inl, inr, refl, ap, sym, ◌∙◌, arith, append_assoc}
-use Rattle.std.proofs.lemmas.Bool.{cases_eq, cases_Bool}
-use Rattle.std.proofs.lemmas.Bool.Decides.{nat_tests}
+use Rattle.std.proofs.Common.{◌≡◌, ℕ, ◌+◌, ◌<◌, ◌≤◌, zero, suc, Bool, true, false, ◌==◌, ◌&&◌, if◌then◌else◌, List, [], ◌∷◌, ◌++◌, length, ◌⊎◌, inl, inr, refl, ap, sym, ◌∙◌, arith, append_assoc}
+use Rattle.std.proofs.lemmas.Bool.{cases_eq, cases_Bool, and_parts}
 use Rattle.std.specs.Prelude.{is_some}
 use Rattle.std.specs.List.{list_all, range_with_len}
 use Rattle.flex_base.specs.Setup.{Setup}
 use Rattle.flex_base.specs.State.{State}
-use Rattle.flex_base.specs.StoryTree.{Want, Asks, Ends, IsOver, IsLater, Story, Says, Closes, StaysOver, ComesLater, want}
-use Rattle.flex_base.specs.Unsplit.{Machine, instruction_at, story_of, want_of, reply_to, step, reach_from, hart_numbers, is_over, has_ended}
-use Rattle.flex_base.specs.DevicesSoFar.{is_spent, stop_of}
+use Rattle.flex_base.specs.StoryTree.{Want, Asks, Ends, IsOver, IsParked, Story, Says, Closes, StaysOver, Parks, want}
+use Rattle.flex_base.specs.Unsplit.{Machine, story_of, want_of, next_of, resumes, is_woken_in, reply_to, step, reach_from, hart_numbers, is_over, is_idle, has_ended}
+use Rattle.flex_base.specs.Devices.{device_stop}
 use Rattle.flex_base.specs.Rounds.{turn, turn_of, turns}
-use Rattle.flex_base.specs.Built.{is_built, unbuilt_at, first_of, first_unbuilt}
 use Rattle.flex_base.specs.declared.access.Access.{Access}
+use Rattle.flex_base.specs.declared.access.Access.TheVariants as acc
 use Rattle.flex_base.specs.declared.access.Reply.{Reply}
 use Rattle.flex_base.specs.declared.event.EndPart.{EndPart}
-use Rattle.flex_base.specs.declared.event.Stop.TheVariants as stop
-use Rattle.flex_base.proofs.Machines.{reach-append, reach-cons, reach-none, story_after_access}
+use Rattle.flex_base.proofs.Machines.{reach-append, reach-none, story_after_access, story_after_park}
 
 -- The story by what is wanted.
 
@@ -23,25 +21,25 @@ pub story_asks : (access : Access) (s : Story) → want s ≡ Asks access → (n
 story_asks access (Says other next) e = let same : other ≡ access = cc in (next, ap (λ a. Says a next) same)
 story_asks access (Closes part after) e = absurd cc
 story_asks access StaysOver e = absurd cc
-story_asks access ComesLater e = absurd cc
+story_asks access (Parks wakes) e = absurd cc
 
 pub story_ends : (part : EndPart) (after : State) (s : Story) → want s ≡ Ends part after → s ≡ Closes part after
 story_ends part after (Says access next) e = cc
 story_ends part after (Closes other left) e = cc
 story_ends part after StaysOver e = cc
-story_ends part after ComesLater e = cc
+story_ends part after (Parks wakes) e = cc
 
 pub story_over : (s : Story) → want s ≡ IsOver → s ≡ StaysOver
 story_over (Says access next) e = cc
 story_over (Closes other left) e = cc
 story_over StaysOver e = refl
-story_over ComesLater e = cc
+story_over (Parks wakes) e = cc
 
-pub story_later : (s : Story) → want s ≡ IsLater → s ≡ ComesLater
-story_later (Says access next) e = cc
-story_later (Closes other left) e = cc
-story_later StaysOver e = cc
-story_later ComesLater e = refl
+pub story_parks : (s : Story) → want s ≡ IsParked → (wakes : ℕ → Story) × (s ≡ Parks wakes)
+story_parks (Says access next) e = absurd cc
+story_parks (Closes other left) e = absurd cc
+story_parks StaysOver e = absurd cc
+story_parks (Parks wakes) e = (wakes, refl)
 
 -- Turns by what the hart wants.
 
@@ -59,53 +57,59 @@ turn_of-ends setup u h part after ends = ap (turn setup u h) (story_ends part af
 pub turn_of-over : (setup : Setup) (u : Machine) (h : ℕ) → want_of setup u h ≡ IsOver → turn_of setup u h ≡ []
 turn_of-over setup u h over = ap (turn setup u h) (story_over (story_of setup u h) over)
 
-turn_begins : (setup : Setup) (u : Machine) (h : ℕ) (s : Story) → is_over (want s) ≡ false → (names : List ℕ) × (turn setup u h s ≡ h ∷ names)
-turn_begins setup u h (Says access next) busy = (turn setup (step setup u h) h (next (reply_to setup u h access)), refl)
-turn_begins setup u h (Closes part after) busy = ([], refl)
-turn_begins setup u h StaysOver busy = absurd cc
-turn_begins setup u h ComesLater busy = ([], refl)
+pub turn_of-unwoken : (setup : Setup) (u : Machine) (h : ℕ) → want_of setup u h ≡ IsParked → is_woken_in setup u h ≡ false → turn_of setup u h ≡ []
+turn_of-unwoken setup u h parked unwoken =
+    let parks = story_parks (story_of setup u h) parked in
+    ap (turn setup u h) parks.1 ∙ ap (λ b. if b then h ∷ (if (reply_to setup u h (acc.Pulse false)).stop then []
+    else turn setup (step setup u h) h (parks.0 (reply_to setup u h (acc.Pulse false)).lines)) else []) unwoken
 
--- a turn begins with the hart's name, unless it is over
-pub turn_of-begins : (setup : Setup) (u : Machine) (h : ℕ) → is_over (want_of setup u h) ≡ false → (names : List ℕ) × (turn_of setup u h ≡ h ∷ names)
-turn_of-begins setup u h busy = turn_begins setup u h (story_of setup u h) busy
+-- where the pulse is told 0, the turn goes on from where it leads
+park_turns : (setup : Setup) (u : Machine) (h : ℕ) (wakes : ℕ → Story) (reply : Reply) (stop : Bool) → reply.value ≡ 0
+    → (if stop then [] else turn setup u h (wakes reply.lines))
+    ≡ turn setup u h (if stop then StaysOver else (if reply.value == 1 then Parks wakes else wakes reply.lines))
+park_turns setup u h wakes reply true told = refl
+park_turns setup u h wakes reply false told =
+    ap (λ v. turn setup u h (if v == 1 then Parks wakes else wakes reply.lines)) (sym told)
 
--- Orders and what isn't built.
+-- the turn of a parked hart that is woken goes on after its pulse, which is told 0
+pub turn_of-woken : (setup : Setup) (u : Machine) (h : ℕ) → h < setup.harts → h < length u.harts → want_of setup u h ≡ IsParked → is_woken_in setup u h ≡ true
+    → (reply_to setup u h (acc.Pulse false)).value ≡ 0 → turn_of setup u h ≡ h ∷ turn_of setup (step setup u h) h
+turn_of-woken setup u h below within parked woken told =
+    let parks = story_parks (story_of setup u h) parked in
+    let reply = reply_to setup u h (acc.Pulse false) in
+    let v = step setup u h in
+    ap (turn setup u h) parks.1
+    ∙ ap (λ b. if b then h ∷ (if reply.stop then [] else turn setup v h (parks.0 reply.lines)) else []) woken
+    ∙ ap (λ names. h ∷ names) (park_turns setup v h parks.0 reply reply.stop told)
+    ∙ ap (λ s. h ∷ turn setup v h s) (sym (story_after_park setup u h parks.0 below within parks.1 woken))
 
--- whether a hart's next event is built
-unbuilt_within : (setup : Setup) (u : Machine) (h : ℕ) → h < setup.harts → unbuilt_at setup u h ≡ (if is_built (want_of setup u h) then None else Some (instruction_at u h).state.pc)
-unbuilt_within setup u h below = grind (arith, nat_tests)
+turn_begins : (setup : Setup) (u : Machine) (h : ℕ) (woken : Bool) (s : Story) → is_woken_in setup u h ≡ woken → is_idle (resumes (want s) woken) ≡ false
+    → (names : List ℕ) × (turn setup u h s ≡ h ∷ names)
+turn_begins setup u h woken (Says access next) e busy = (turn setup (step setup u h) h (next (reply_to setup u h access)), refl)
+turn_begins setup u h woken (Closes part after) e busy = ([], refl)
+turn_begins setup u h woken StaysOver e busy = absurd cc
+turn_begins setup u h true (Parks wakes) e busy =
+    let reply = reply_to setup u h (acc.Pulse false) in
+    let rest : List ℕ = if reply.stop then [] else turn setup (step setup u h) h (wakes reply.lines) in
+    (rest, ap (λ b. if b then h ∷ rest else []) e)
+turn_begins setup u h false (Parks wakes) e busy = absurd cc
 
-pub built_here : (setup : Setup) (u : Machine) (h : ℕ) → h < setup.harts → is_built (want_of setup u h) ≡ true → unbuilt_at setup u h ≡ None
-built_here setup u h below built = unbuilt_within setup u h below ∙ ap (λ b. if b then None else Some (instruction_at u h).state.pc) built
+-- a turn begins with the hart's name where it has a next event
+pub turn_of-begins : (setup : Setup) (u : Machine) (h : ℕ) → is_idle (next_of setup u h) ≡ false → (names : List ℕ) × (turn_of setup u h ≡ h ∷ names)
+turn_of-begins setup u h busy = turn_begins setup u h (is_woken_in setup u h) (story_of setup u h) refl busy
 
-pub unbuilt_here : (setup : Setup) (u : Machine) (h : ℕ) → h < setup.harts → is_built (want_of setup u h) ≡ false → unbuilt_at setup u h ≡ Some (instruction_at u h).state.pc
-unbuilt_here setup u h below unbuilt = unbuilt_within setup u h below ∙ ap (λ b. if b then None else Some (instruction_at u h).state.pc) unbuilt
+turn_none : (setup : Setup) (u : Machine) (h : ℕ) (woken : Bool) (s : Story) → is_woken_in setup u h ≡ woken → is_idle (resumes (want s) woken) ≡ true → turn setup u h s ≡ []
+turn_none setup u h woken (Says access next) e idle = absurd cc
+turn_none setup u h woken (Closes part after) e idle = absurd cc
+turn_none setup u h woken StaysOver e idle = refl
+turn_none setup u h true (Parks wakes) e idle = absurd cc
+turn_none setup u h false (Parks wakes) e idle =
+    let reply = reply_to setup u h (acc.Pulse false) in
+    ap (λ b. if b then h ∷ (if reply.stop then [] else turn setup (step setup u h) h (wakes reply.lines)) else []) e
 
--- a name without a hart makes no event, and so none that isn't built
-pub built_beyond : (setup : Setup) (u : Machine) (h : ℕ) → nat_lt h setup.harts ≡ false → unbuilt_at setup u h ≡ None
-built_beyond setup u h beyond = ap (λ b. if b then (if is_built (want_of setup u h) then None else Some (instruction_at u h).state.pc) else None) beyond
-
--- a hart whose next event isn't built isn't over
-pub unbuilt_busy : (w : Want) → is_built w ≡ false → is_over w ≡ false
-unbuilt_busy (Asks access) e = refl
-unbuilt_busy (Ends made after) e = refl
-unbuilt_busy IsOver e = absurd cc
-unbuilt_busy IsLater e = refl
-
-first_of_assoc : (a b c : Option ℕ) → first_of a (first_of b c) ≡ first_of (first_of a b) c
-first_of_assoc None b c = refl
-first_of_assoc (Some pc) b c = refl
-
-pub first_none : (a b : Option ℕ) → first_of a b ≡ None → (a ≡ None) × (b ≡ None)
-first_none None b e = (refl, e)
-first_none (Some pc) b e = absurd cc
-
-pub first_unbuilt-append : (setup : Setup) (u : Machine) (xs ys : List ℕ) → first_unbuilt setup u (xs ++ ys) ≡ first_of (first_unbuilt setup u xs) (first_unbuilt setup (reach_from setup u xs) ys)
-first_unbuilt-append setup u [] ys = ap (λ m. first_unbuilt setup m ys) (sym (reach-none setup u))
-first_unbuilt-append setup u (h ∷ xs) ys =
-    ap (first_of (unbuilt_at setup u h)) (first_unbuilt-append setup (step setup u h) xs ys)
-    ∙ first_of_assoc (unbuilt_at setup u h) (first_unbuilt setup (step setup u h) xs) (first_unbuilt setup (reach_from setup (step setup u h) xs) ys)
-    ∙ ap (λ m. first_of (first_of (unbuilt_at setup u h) (first_unbuilt setup (step setup u h) xs)) (first_unbuilt setup m ys)) (sym (reach-cons setup u h xs))
+-- and is empty where it has none
+pub turn_of-idle : (setup : Setup) (u : Machine) (h : ℕ) → is_idle (next_of setup u h) ≡ true → turn_of setup u h ≡ []
+turn_of-idle setup u h idle = turn_none setup u h (is_woken_in setup u h) (story_of setup u h) refl idle
 
 -- All harts.
 
@@ -129,31 +133,35 @@ some_number p a (suc n) h from below e = elim (below_suc a n h from below) [
   | inr later ↦ ap (λ b. p a && b) (some_number p (a + 1) n h later.0 later.1 e) ∙ and_none (p a)
 ]
 
--- a run in which all harts are spent and over has ended
-pub ended_all : (setup : Setup) (u : Machine) → ((h : ℕ) → h < setup.harts → is_spent u.devices h ≡ true) → ((h : ℕ) → h < setup.harts → want_of setup u h ≡ IsOver) → has_ended setup u ≡ true
-ended_all setup u spent over =
-    ap (λ b. is_some (if b then Some stop.Budget else None) && list_all (λ h. is_over (want_of setup u h)) (hart_numbers setup))
-    (all_numbers (is_spent u.devices) 0 setup.harts (λ h from below. spent h (omega (arith, below))))
-    ∙ all_numbers (λ h. is_over (want_of setup u h)) 0 setup.harts (λ h from below. ap is_over (over h (omega (arith, below))))
+-- a run in which a stop stands and each hart is over or parked has ended
+pub ended_all : (setup : Setup) (u : Machine) → is_some (device_stop setup.harts u.devices) ≡ true
+    → ((h : ℕ) → h < setup.harts → is_idle (want_of setup u h) ≡ true) → has_ended setup u ≡ true
+ended_all setup u stops idle =
+    ap (λ b. b && list_all (λ h. is_idle (want_of setup u h)) (hart_numbers setup)) stops
+    ∙ all_numbers (λ h. is_idle (want_of setup u h)) 0 setup.harts (λ h from below. idle h (omega (arith, below)))
 
--- one in which some hart isn't over hasn't
-pub ended_not : (setup : Setup) (u : Machine) (h : ℕ) → h < setup.harts → is_over (want_of setup u h) ≡ false → has_ended setup u ≡ false
+-- one in which some hart has an event by itself hasn't
+pub ended_not : (setup : Setup) (u : Machine) (h : ℕ) → h < setup.harts → is_idle (want_of setup u h) ≡ false → has_ended setup u ≡ false
 ended_not setup u h below busy =
-    ap (λ b. is_some (stop_of setup.harts u.devices) && b) (some_number (λ k. is_over (want_of setup u k)) 0 setup.harts h (omega arith) (omega (arith, below)) busy)
-    ∙ and_none (is_some (stop_of setup.harts u.devices))
+    ap (λ b. is_some (device_stop setup.harts u.devices) && b) (some_number (λ k. is_idle (want_of setup u k)) 0 setup.harts h (omega arith) (omega (arith, below)) busy)
+    ∙ and_none (is_some (device_stop setup.harts u.devices))
+
+-- where the run has ended, each hart is over or parked
+pub idle_ended : (setup : Setup) (u : Machine) (h : ℕ) → has_ended setup u ≡ true → h < setup.harts → is_idle (want_of setup u h) ≡ true
+idle_ended setup u h ended below = elim (cases_Bool (is_idle (want_of setup u h))) [
+  | inl idle ↦ idle
+  | inr busy ↦ let not_yet = ended_not setup u h below busy in absurd cc
+]
+
+-- and a stop stands
+pub stop_ended : (setup : Setup) (u : Machine) → has_ended setup u ≡ true → is_some (device_stop setup.harts u.devices) ≡ true
+stop_ended setup u ended = (and_parts (is_some (device_stop setup.harts u.devices)) (list_all (λ h. is_idle (want_of setup u h)) (hart_numbers setup)) ended).0
 
 pub over_by : (w : Want) → is_over w ≡ true → w ≡ IsOver
 over_by (Asks access) e = absurd cc
 over_by (Ends part after) e = absurd cc
 over_by IsOver e = refl
-over_by IsLater e = absurd cc
-
--- where the run has ended, each hart is over
-pub over_ended : (setup : Setup) (u : Machine) (h : ℕ) → has_ended setup u ≡ true → h < setup.harts → want_of setup u h ≡ IsOver
-over_ended setup u h ended below = elim (cases_Bool (is_over (want_of setup u h))) [
-  | inl over ↦ over_by (want_of setup u h) over
-  | inr busy ↦ let not_yet = ended_not setup u h below busy in absurd cc
-]
+over_by IsParked e = absurd cc
 
 -- Rounds.
 
@@ -164,27 +172,6 @@ turns_ended setup u (h ∷ harts) ended = ap (λ b. if b then [] else turn_of se
 pub turns_busy : (setup : Setup) (u : Machine) (h : ℕ) (harts : List ℕ) → has_ended setup u ≡ false
     → turns setup u (h ∷ harts) ≡ turn_of setup u h ++ turns setup (reach_from setup u (turn_of setup u h)) harts
 turns_busy setup u h harts busy = ap (λ b. if b then [] else turn_of setup u h ++ turns setup (reach_from setup u (turn_of setup u h)) harts) busy
-
-stop_by : (b c : Bool) → (is_some (if b then Some stop.Budget else None) && c) ≡ true → (if b then Some stop.Budget else None) ≡ Some stop.Budget
-stop_by true c e = refl
-stop_by false c e = absurd cc
-
--- a run that has ended has spent all budgets
-pub stop_ended : (setup : Setup) (u : Machine) → has_ended setup u ≡ true → stop_of setup.harts u.devices ≡ Some stop.Budget
-stop_ended setup u ended = stop_by (list_all (is_spent u.devices) (hart_numbers setup)) (list_all (λ h. is_over (want_of setup u h)) (hart_numbers setup)) ended
-
--- a turn more, also where the run has ended, since then it has no event
-pub turns-cons : (setup : Setup) (u : Machine) (h : ℕ) (harts : List ℕ) → h < setup.harts
-    → turns setup u (h ∷ harts) ≡ turn_of setup u h ++ turns setup (reach_from setup u (turn_of setup u h)) harts
-turns-cons setup u h harts below = elim (cases_Bool (has_ended setup u)) [
-  | inl ended ↦
-      let still = turn_of-over setup u h (over_ended setup u h ended below) in
-      turns_ended setup u (h ∷ harts) ended
-      ∙ sym (turns_ended setup u harts ended)
-      ∙ ap (λ m. turns setup m harts) (sym (reach-none setup u))
-      ∙ ap (λ names. names ++ turns setup (reach_from setup u names) harts) (sym still)
-  | inr busy ↦ turns_busy setup u h harts busy
-]
 
 pub turns-append : (setup : Setup) (u : Machine) (xs ys : List ℕ) → turns setup u (xs ++ ys) ≡ turns setup u xs ++ turns setup (reach_from setup u (turns setup u xs)) ys
 turns-append setup u [] ys = ap (λ m. turns setup m ys) (sym (reach-none setup u))

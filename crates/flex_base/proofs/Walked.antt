@@ -1,11 +1,9 @@
 -- Where walks end, and what is kept of them.
-use Rattle.std.proofs.Common.{◌≡◌, ℕ, Bool, true, false, not, ◌&&◌, ◌||◌, ◌==◌, ◌%◌, if◌then◌else◌, List, [], ◌∷◌, ◌++◌, length, find, Option, None, Some, refl, ap, sym, subst, ◌∙◌, arith, inl, inr}
+use Rattle.std.proofs.Common.{◌≡◌, ℕ, Bool, true, false, ◌==◌, ◌%◌, if◌then◌else◌, List, [], ◌∷◌, ◌++◌, length, find, Option, None, Some, refl, sym, subst, arith}
 use Rattle.std.specs.Prelude.{reverse}
 use Rattle.std.specs.List.{list_any}
-use Rattle.std.proofs.lemmas.Bool.{cases_Bool}
 use Rattle.std.proofs.lemmas.List.{reverse-append}
-use Rattle.flex_base.specs.Word.{field}
-use Rattle.flex_base.specs.Translation.{is_canonical, is_valid, is_readable, is_writable, is_user, is_accessed, is_dirty, is_leaf, frame_of, pages_at, faults, leaf_at, follows, walk_from, walk, root_of, IsLeaf, IfLeaf, AreLeaves, latest, places, of_page, kept}
+use Rattle.flex_base.specs.Translation.{is_canonical, is_leaf, frame_of, faults, leaf_at, follows, walk_from, walk, root_of, IsLeaf, IfLeaf, AreLeaves, latest, places, of_page, kept}
 use Rattle.flex_base.specs.declared.translation.Leaf.{Leaf}
 use Rattle.flex_base.specs.declared.translation.WalkStep.{WalkStep}
 use Rattle.flex_base.specs.declared.translation.WalkStep.TheVariants as step

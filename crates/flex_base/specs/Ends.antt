@@ -1,5 +1,5 @@
 -- The ends of instructions.
-use Rattle.std.specs.Prelude.{ℕ, ◌+◌, Bool, true, false, ◌||◌, ◌==◌, if◌then◌else◌, Option, None}
+use Rattle.std.specs.Prelude.{ℕ, ◌+◌, Bool, true, false, ◌||◌, ◌==◌, if◌then◌else◌, None}
 use Rattle.flex_base.specs.Word.{wrap, is_multiple}
 use Rattle.flex_base.specs.Causes.{instruction_address_misaligned, illegal_instruction}
 use Rattle.flex_base.specs.Traps.{Transfer, trap, count}
@@ -19,10 +19,17 @@ finishes a class after first second due = Closes
 abbrev pub told_of : ℕ → ℕ → ℕ
 told_of rd value = if rd == 0 then 0 else value
 
--- an end that writes a register (0 for none) and goes on at `next`; a cycle and an instruction are counted
+-- the state at `next` after a write of a register (0 for none); a cycle and an instruction are counted
+abbrev pub leaves_at : State → ℕ → ℕ → ℕ → State
+leaves_at a next rd value = record a { pc = next; x = set_reg a.x rd value; csrs = count a.csrs true true }
+
+-- an end that writes a register (0 for none) and goes on at `next`
 abbrev pub ends : State → Class → ℕ → ℕ → ℕ → Story
-ends a class next rd value = finishes a class
-    (record a { pc = next; x = set_reg a.x rd value; csrs = count a.csrs true true }) rd (told_of rd value) false
+ends a class next rd value = finishes a class (leaves_at a next rd value) rd (told_of rd value) false
+
+-- such an end after which a pulse is due
+abbrev pub ends_due : State → Class → ℕ → ℕ → ℕ → Story
+ends_due a class next rd value = finishes a class (leaves_at a next rd value) rd (told_of rd value) true
 
 -- a trap leads here; a cycle is counted, and no instruction
 abbrev pub enters : State → ℕ → ℕ → Transfer → Story
@@ -53,6 +60,13 @@ computes a class rd value = ends a class (wrap (a.pc + 4)) rd value
 -- an end that goes on at the next instruction and writes no register
 abbrev pub passes : State → Class → Story
 passes a class = computes a class 0 0
+
+-- the ends of an instruction that read a device register or wrote one, after which a pulse is due
+abbrev pub computes_device : State → ℕ → ℕ → Story
+computes_device a rd value = ends_due a class.Device (wrap (a.pc + 4)) rd value
+
+abbrev pub passes_device : State → Story
+passes_device a = computes_device a 0 0
 
 -- the end of a store-conditional, and of the hart's reservation with it
 abbrev pub concludes : State → ℕ → ℕ → Story

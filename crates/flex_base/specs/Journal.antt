@@ -1,10 +1,10 @@
 -- Journals: the events of a split run, handovers among them.
-use Rattle.std.specs.Prelude.{◌≡◌, ℕ, Bool, true, false, not, ◌==◌, if◌then◌else◌, List, map, filter, length}
+use Rattle.std.specs.Prelude.{◌≡◌, ℕ, Bool, true, false, not, if◌then◌else◌, List, map, filter, length}
 use Rattle.std.specs.List.{filter_map, range_with_len}
 use Rattle.std.specs.Prelude.{Option, None, Some}
 use Rattle.flex_base.specs.Setup.{Setup}
+use Rattle.flex_base.specs.Devices as devices
 use Rattle.flex_base.specs.Unsplit.{Made, does, unsplit}
-use Rattle.flex_base.specs.declared.access.Access.TheVariants as acc
 use Rattle.flex_base.specs.declared.engine.Engine.{Engine}
 use Rattle.flex_base.specs.declared.event.Event.{Event}
 use Rattle.flex_base.specs.declared.event.What.{What}
@@ -37,7 +37,7 @@ pub record IsLegal (setup : Setup) (journal : List Event) : Type 0 where
 
 -- the byte that an event transmits
 abbrev pub byte_of : What → Option ℕ
-byte_of (what.Acc (acc.DevWrite address width value) reply) = if address == 0x10000000 then Some value else None
+byte_of (what.Acc access reply) = if devices.is_transmit access then Some (devices.byte_of access) else None
 byte_of other = None
 
 -- the bytes that these events transmit

@@ -23,12 +23,11 @@ pub mod Story
 pub mod EndClass
 pub mod Forms
 pub mod FlatMemory
-pub mod DevicesSoFar
 pub mod Reservations
 pub mod Devices
 pub mod DeviceLaws
+pub mod Parked
 pub mod Unsplit
 pub mod Rounds
-pub mod Built
-pub mod EndOfRun
 pub mod Journal
+pub mod EndOfRun

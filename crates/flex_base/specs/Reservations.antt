@@ -2,7 +2,7 @@
 use Rattle.std.specs.Prelude.{◌≡◌, ℕ, Bool, true, false, not, ◌&&◌, ◌||◌, ◌==◌, if◌then◌else◌, List, [], ◌∷◌, ◌++◌, fold, Option, None, Some}
 use Rattle.std.specs.List.{list_all}
 use Rattle.flex_base.specs.FlatMemory.{Done, reservation_set}
-use Rattle.flex_base.specs.StoryTree.{Want, Asks, Story, Says}
+use Rattle.flex_base.specs.StoryTree.{Want, Asks, Story, Says, Parks, after_one}
 use Rattle.flex_base.specs.declared.access.Access.{Access}
 use Rattle.flex_base.specs.declared.access.Access.TheVariants as acc
 use Rattle.flex_base.specs.declared.access.Reply.{Reply}
@@ -28,11 +28,16 @@ own_reservation made hart = fold (λ old (d : Done). own_after hart old d.hart d
 abbrev pub IsOwn : Option ℕ → Option ℕ → Type 0
 IsOwn own reservation = (set : ℕ) → reservation ≡ Some set → own ≡ Some set
 
+-- the access that comes next, where one does
+abbrev pub asked : Story → List Access
+asked (Says access next) = access ∷ []
+asked (Parks wakes) = acc.Pulse false ∷ []
+asked other = []
+
 -- the accesses to which these are the replies
 abbrev pub accesses_in : Story → List Reply → List Access
-accesses_in (Says access next) [] = []
-accesses_in (Says access next) (reply ∷ replies) = access ∷ accesses_in (next reply) replies
-accesses_in other replies = []
+accesses_in s [] = []
+accesses_in s (reply ∷ replies) = asked s ++ accesses_in (after_one s reply) replies
 
 -- a store-conditional is asked only where the hart's last load-reserved or store-conditional is a load-reserved of the same
 -- 8 bytes

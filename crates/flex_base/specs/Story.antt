@@ -1,9 +1,9 @@
 -- The story of one instruction: what a hart does, from the state at the start and the replies so far.
-use Rattle.std.specs.Prelude.{ℕ, ◌+◌, ◌-◌, ◌*◌, ◌%◌, Bool, true, false, not, ◌&&◌, ◌==◌, nat_lt, if◌then◌else◌, List, [], ◌∷◌, slice_index, Option, None, Some}
+use Rattle.std.specs.Prelude.{ℕ, ◌+◌, ◌-◌, ◌*◌, ◌%◌, Bool, true, false, not, ◌&&◌, ◌==◌, nat_lt, if◌then◌else◌, List, [], slice_index, bit_and, Option, None, Some}
 use Rattle.flex_base.specs.Word.{wrap, low, sign_extend, is_multiple, is_set}
 use Rattle.flex_base.specs.Place.{in_ram, place_of}
 use Rattle.flex_base.specs.Causes.{instruction_access_fault, breakpoint, load_access_fault, store_access_fault, misaligned, access_fault, ecall_from}
-use Rattle.flex_base.specs.Csrs.{mstatus, TVM, TW, TSR}
+use Rattle.flex_base.specs.Csrs.{mstatus, mie, mip, TVM, TW, TSR}
 use Rattle.flex_base.specs.Traps.{mret, sret, takeable}
 use Rattle.flex_base.specs.Zicsr.{CSR_TIME, reads_csr, writes_csr, csr_operand, csr_result, may_use_csr, is_pending_csr, csr_value, csrs_with, count_but, makes_due, turns_satp}
 use Rattle.flex_base.specs.Decoding.{decoded}
@@ -12,13 +12,11 @@ use Rattle.flex_base.specs.FlatMemory.{reservation_set, is_reserved}
 use Rattle.std.specs.Int.{w64}
 use Rattle.flex_base.specs.State.{State, reg, set_reg}
 use Rattle.flex_base.specs.Setup.{Setup}
-use Rattle.flex_base.specs.StoryTree.{Want, Story, Says, StaysOver, ComesLater, goes, want}
-use Rattle.flex_base.specs.Ends.{finishes, told_of, ends, traps, traps_illegal, returns, jumps, computes, passes, concludes}
+use Rattle.flex_base.specs.StoryTree.{Want, Story, Says, StaysOver, Parks, goes, want}
+use Rattle.flex_base.specs.Ends.{finishes, told_of, traps, traps_illegal, returns, jumps, computes, passes, computes_device, passes_device, concludes}
 use Rattle.flex_base.specs.Translating.{translates}
-use Rattle.flex_base.specs.declared.access.Access.{Access}
 use Rattle.flex_base.specs.declared.access.Access.TheVariants as acc
 use Rattle.flex_base.specs.declared.access.Reply.{Reply}
-use Rattle.flex_base.specs.declared.class.Class.{Class}
 use Rattle.flex_base.specs.declared.class.Class.TheVariants as class
 use Rattle.flex_base.specs.declared.hart.Mode.{Mode}
 use Rattle.flex_base.specs.declared.hart.Mode.TheVariants as mode
@@ -55,11 +53,11 @@ branches a taken target = if taken then jumps a target 0 else passes a class.Jum
 abbrev pub extended : Bool → ℕ → ℕ → ℕ
 extended signed width value = if signed then sign_extend (8 * width) (low (8 * width) value) else value
 
--- the work at aligned bytes: in RAM the access that is given, elsewhere an access fault; devices come later
-abbrev pub at_place : Place → Story → Story → Story
-at_place place.Ram access fault = access
-at_place place.Device access fault = ComesLater
-at_place place.Nowhere access fault = fault
+-- the work at aligned bytes: an access of RAM, an access of a device register, or elsewhere an access fault
+abbrev pub at_place : Place → Story → Story → Story → Story
+at_place place.Ram access device fault = access
+at_place place.Device access device fault = device
+at_place place.Nowhere access device fault = fault
 
 -- Privileged instructions.
 
@@ -128,6 +126,29 @@ uses_csr a word does rd rs1 number =
 abbrev pub fences_memory : State → Story
 fences_memory a = passes (record a { leaves = [] }) class.System
 
+-- WFI (Volume II, "Wait for Interrupt").
+
+-- it ends with these interrupt lines; no interrupt is taken by WFI itself
+abbrev pub ends_wait : State → ℕ → Story
+ends_wait a lines = passes (record a { lines = lines }) class.System
+
+-- the reply to a wait tells the lines; one of value 1 leaves the hart parked until a pulse of its own
+abbrev pub after_wait : State → Reply → Story
+after_wait a reply =
+    if reply.stop then StaysOver else (if reply.value == 1 then Parks (ends_wait a) else ends_wait a reply.lines)
+
+abbrev pub after_wait_pulse : State → Reply → Story
+after_wait_pulse a reply = if reply.stop then StaysOver else ends_wait a reply.lines
+
+-- an interrupt is pending and enabled by the software bits of mip, without the lines
+abbrev pub has_pending : List ℕ → Bool
+has_pending stores = not (bit_and (slice_index stores mip) (slice_index stores mie) == 0)
+
+-- where one is pending there is nothing to wait for, and a pulse alone is made
+abbrev pub waits : State → Story
+waits a = if has_pending a.csrs then Says (acc.Pulse false) (after_wait_pulse a)
+    else Says (acc.Wait (slice_index a.csrs mie)) (after_wait a)
+
 -- time goes on where the ends are a positive multiple of 64
 abbrev pub is_tick : State → Bool
 is_tick a = nat_lt 0 a.ends && is_multiple a.ends 64
@@ -143,6 +164,7 @@ module _ (setup : Setup) where
   abbrev pub loads_at : ℕ → Bool → ℕ → ℕ → State → ℕ → Story
   loads_at width signed rd va a address = at_place (place_of setup.harts setup.ram address width)
       (Says (acc.Read address width) (λ reply. computes a class.Load rd (extended signed width reply.value)))
+      (Says (acc.DevRead address width) (λ reply. computes_device a rd (extended signed width reply.value)))
       (traps a load_access_fault va)
 
   abbrev pub loads : State → ℕ → Bool → ℕ → ℕ → Story
@@ -152,6 +174,7 @@ module _ (setup : Setup) where
   abbrev pub stores_at : ℕ → ℕ → ℕ → State → ℕ → Story
   stores_at width value va a address = at_place (place_of setup.harts setup.ram address width)
       (Says (acc.Write address width (low (8 * width) value)) (λ reply. passes a class.Store))
+      (Says (acc.DevWrite address width (low (8 * width) value)) (λ reply. passes_device a))
       (traps a store_access_fault va)
 
   abbrev pub stores : State → ℕ → ℕ → ℕ → Story
@@ -213,7 +236,7 @@ module _ (setup : Setup) where
   works a word op.Ebreak = traps a breakpoint 0
   works a word op.Mret = if is_machine a.mode then returns a (mret a.csrs) else traps_illegal a word
   works a word op.Sret = if supervises TSR a.csrs a.mode then returns a (sret a.csrs) else traps_illegal a word
-  works a word op.Wfi = if supervises TW a.csrs a.mode then ComesLater else traps_illegal a word
+  works a word op.Wfi = if supervises TW a.csrs a.mode then waits a else traps_illegal a word
   works a word (op.SfenceVma rs1 rs2) = if supervises TVM a.csrs a.mode then fences_memory a else traps_illegal a word
   works a word (op.Illegal whole) = traps_illegal a whole
 

@@ -3,11 +3,12 @@ use Rattle.std.specs.Prelude.{ℕ, Bool, true, false, ◌&&◌, nat_lt, if◌the
 use Rattle.std.specs.List.{list_all, range_with_len}
 use Rattle.flex_base.specs.Setup.{Setup}
 use Rattle.flex_base.specs.State.{State, start}
-use Rattle.flex_base.specs.StoryTree.{Want, Asks, Ends, IsOver, Story, goes, want}
+use Rattle.flex_base.specs.StoryTree.{Want, Asks, Ends, IsOver, IsParked, Story, goes, want}
 use Rattle.flex_base.specs.Story.{story}
 use Rattle.flex_base.specs.FlatMemory.{Done, is_ram_access, flat, reply_with}
-use Rattle.flex_base.specs.DevicesSoFar.{device_reply, stop_of}
+use Rattle.flex_base.specs.Devices.{reply_after, woken, device_stop}
 use Rattle.flex_base.specs.declared.access.Access.{Access}
+use Rattle.flex_base.specs.declared.access.Access.TheVariants as acc
 use Rattle.flex_base.specs.declared.access.Reply.{Reply}
 use Rattle.flex_base.specs.declared.event.What.{What}
 use Rattle.flex_base.specs.declared.event.What.TheVariants as what
@@ -63,6 +64,17 @@ abbrev pub is_over : Want → Bool
 is_over IsOver = true
 is_over other = false
 
+-- the hart makes no event by itself: it is over or parked
+abbrev pub is_idle : Want → Bool
+is_idle (Asks access) = false
+is_idle (Ends part next) = false
+is_idle other = true
+
+-- a parked hart makes a pulse without tick, and only once it is woken
+abbrev pub resumes : Want → Bool → Want
+resumes IsParked woken = if woken then Asks (acc.Pulse false) else IsParked
+resumes other woken = other
+
 module _ (setup : Setup) where
   -- the numbers of the harts
   abbrev pub hart_numbers : List ℕ
@@ -84,10 +96,19 @@ module _ (setup : Setup) where
   abbrev pub want_of : Machine → ℕ → Want
   want_of u h = want (story_of u h)
 
+  -- whether the devices have woken the hart, so that a parked one may make its pulse
+  abbrev pub is_woken_in : Machine → ℕ → Bool
+  is_woken_in u h = woken setup.harts u.devices h
+
+  -- the hart's next event, where it has one
+  abbrev pub next_of : Machine → ℕ → Want
+  next_of u h = resumes (want_of u h) (is_woken_in u h)
+
   -- memory's or the devices' reply
   abbrev pub reply_to : Machine → ℕ → Access → Reply
   reply_to u h access =
-      if is_ram_access access then flat setup.image u.ram h access else device_reply u.devices access
+      if is_ram_access access then flat setup.image u.ram h access
+      else reply_after setup.harts setup.input u.devices h access
 
   -- the event that the hart wants; where it wants none, nothing
   abbrev pub make : Machine → ℕ → Want → Machine
@@ -100,7 +121,7 @@ module _ (setup : Setup) where
 
   -- the named hart makes its next event; a name without one is passed over
   abbrev pub step : Machine → ℕ → Machine
-  step u h = if nat_lt h setup.harts then make u h (want_of u h) else u
+  step u h = if nat_lt h setup.harts then make u h (next_of u h) else u
 
   -- the state after the harts were taken in this order
   unfoldable pub reach_from : Machine → List ℕ → Machine
@@ -113,6 +134,6 @@ module _ (setup : Setup) where
   abbrev pub unsplit : List ℕ → List Made
   unsplit order = (reach order).events
 
-  -- a stop stands, and no hart has anything left to do
+  -- a stop stands, and each hart has spent its budget, was told the stop, or waits, woken or not
   abbrev pub has_ended : Machine → Bool
-  has_ended u = is_some (stop_of setup.harts u.devices) && list_all (λ h. is_over (want_of u h)) hart_numbers
+  has_ended u = is_some (device_stop setup.harts u.devices) && list_all (λ h. is_idle (want_of u h)) hart_numbers
