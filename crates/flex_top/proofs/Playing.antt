@@ -22,10 +22,9 @@ use Rattle.flex_base.specs.declared.event.EndPart.{EndPart}
 use Rattle.flex_base.specs.declared.event.What.TheVariants as what
 use Rattle.flex_base.specs.declared.settings.Settings.{Settings}
 use Rattle.flex_base.proofs.Machines.{step_is, instruction-set}
-use Rattle.hart_story.specs.Progress.{IsIn, is_done}
+use Rattle.hart_story.specs.Progress.{IsIn, begun, is_done}
 use Rattle.hart_story.specs.declared.hart.Hart.{Hart}
 use Rattle.hart_story.specs.declared.progress.Progress.{Progress}
-use Rattle.hart_story.specs.declared.progress.Progress.TheVariants as progress
 use Rattle.hart_story.proofs.Asking.{asks_not_done}
 use Rattle.flex_top.specs.Memory.{Serves, ram_after, devices_after}
 use Rattle.flex_top.specs.declared.memory.Memory.{Memory}
@@ -103,7 +102,7 @@ pub hart_read : (harts : List Hart) (h : ℕ) (hart other : Hart) → h < length
 hart_read harts h hart other within same = get_or_default harts h other hart within ∙ sym same
 
 pub far_read : (player : Player) (h : ℕ) (far : Progress) → h < length player.progress.items → far ≡ get_or player.progress.items h far → progress_at player h ≡ far
-far_read player h far within same = get_or_default player.progress.items h progress.Begun far within ∙ sym same
+far_read player h far within same = get_or_default player.progress.items h begun far within ∙ sym same
 
 -- what was read of the player's hart of this number stands for it
 pub in_hart : (setup : Setup) (u : Machine) (player : Player) (h : ℕ) (hart : Hart) (far : Progress) → IsAt setup u player → h < setup.harts → hart ≡ get_or player.harts.items h hart → far ≡ get_or player.progress.items h far
@@ -173,7 +172,7 @@ at_access setup u player next h access far below at asks hart same retired harts
     let v = makes u h access reply in
     let first : Hart → Hart = λ (other : Hart). get_or player.harts.items h other in
     let busy = λ (other : Hart). asks_not_done setup (instruction_at u h) (progress_at player h) access (at.each h other below).in_story.reached asks in
-    let far_here : progress_at next h ≡ far = ap (λ (xs : List Progress). get_or xs h progress.Begun) fars ∙ get_or-set_same player.progress.items h far progress.Begun in_progress in
+    let far_here : progress_at next h ≡ far = ap (λ (xs : List Progress). get_or xs h begun) fars ∙ get_or-set_same player.progress.items h far begun in_progress in
     let here = λ (other : Hart).
     hart_is setup v h after (first other) (get_or next.harts.items h other) far (progress_at next h)
     (instruction-set u h after v.harts (instruction_from (start h 0)) within refl)
@@ -193,7 +192,7 @@ at_access setup u player next h access far below at asks hart same retired harts
       each = each_by setup u v player next h after at refl
           (λ k apart. spent_other u.devices h k access reply apart)
           (λ k other apart. ap (λ (xs : List Hart). get_or xs k other) harts)
-          (λ k apart. ap (λ (xs : List Progress). get_or xs k progress.Begun) fars ∙ get_or-set_other player.progress.items h k far progress.Begun apart)
+          (λ k apart. ap (λ (xs : List Progress). get_or xs k begun) fars ∙ get_or-set_other player.progress.items h k far begun apart)
           here;
       run = split_push default_plan setup.harts u.events (does h (what.Acc access reply)) ∙ ap (λ p. split_event default_plan p (does h (what.Acc access reply))) at.run ∙ sym run;
       memory = memory;
@@ -202,10 +201,10 @@ at_access setup u player next h access far below at asks hart same retired harts
 -- The player after an end.
 
 pub at_end : (setup : Setup) (u : Machine) (player next : Player) (h : ℕ) (made : EndPart) (after : State) (hart : Hart) → h < setup.harts → IsAt setup u player → want_of setup u h ≡ Ends made after
-    → IsIn setup (instruction_from after) hart progress.Begun (layout_of (settings_of setup)) setup.budget
+    → IsIn setup (instruction_from after) hart begun (layout_of (settings_of setup)) setup.budget
     → next.settings ≡ player.settings
     → is_done (progress_at player h) ≡ false
-    → next.harts.items ≡ set player.harts.items h hart → next.progress.items ≡ set player.progress.items h progress.Begun
+    → next.harts.items ≡ set player.harts.items h hart → next.progress.items ≡ set player.progress.items h begun
     → next.memory ≡ player.memory
     → length next.run.engines.items ≡ length player.run.engines.items
     → splitting_of next.run ≡ split_event default_plan (splitting_of player.run) (does h (what.End made))
@@ -215,9 +214,9 @@ at_end setup u player next h made after hart below at ends there_in same before 
     let in_progress : h < length player.progress.items = omega (arith, below, at.progress) in
     let in_harts : h < length player.harts.items = omega (arith, below, at.harts) in
     let v = make setup u h (Ends made after) in
-    let far_here : progress_at next h ≡ progress.Begun = ap (λ (xs : List Progress). get_or xs h progress.Begun) fars ∙ get_or-set_same player.progress.items h progress.Begun progress.Begun in_progress in
+    let far_here : progress_at next h ≡ begun = ap (λ (xs : List Progress). get_or xs h begun) fars ∙ get_or-set_same player.progress.items h begun begun in_progress in
     let here = λ (other : Hart).
-    hart_is setup v h (instruction_from after) hart (get_or next.harts.items h other) progress.Begun (progress_at next h)
+    hart_is setup v h (instruction_from after) hart (get_or next.harts.items h other) begun (progress_at next h)
     (instruction-set u h (instruction_from after) v.harts (instruction_from (start h 0)) within refl)
     (ap (λ (xs : List Hart). get_or xs h other) harts ∙ get_or-set_same player.harts.items h hart other in_harts)
     far_here
@@ -230,12 +229,12 @@ at_end setup u player next h made after hart below at ends there_in same before 
       settings = same ∙ at.settings;
       halves = length-set u.harts h (instruction_from after) ∙ at.halves;
       harts = ap (λ (xs : List Hart). length xs) harts ∙ length-set player.harts.items h hart ∙ at.harts;
-      progress = ap (λ (xs : List Progress). length xs) fars ∙ length-set player.progress.items h progress.Begun ∙ at.progress;
+      progress = ap (λ (xs : List Progress). length xs) fars ∙ length-set player.progress.items h begun ∙ at.progress;
       engines = engines ∙ at.engines;
       each = each_by setup u v player next h (instruction_from after) at refl
           (λ k apart. refl)
           (λ k other apart. ap (λ (xs : List Hart). get_or xs k other) harts ∙ get_or-set_other player.harts.items h k hart other apart)
-          (λ k apart. ap (λ (xs : List Progress). get_or xs k progress.Begun) fars ∙ get_or-set_other player.progress.items h k progress.Begun progress.Begun apart)
+          (λ k apart. ap (λ (xs : List Progress). get_or xs k begun) fars ∙ get_or-set_other player.progress.items h k begun begun apart)
           here;
       run = split_push default_plan setup.harts u.events (does h (what.End made)) ∙ ap (λ p. split_event default_plan p (does h (what.End made))) at.run ∙ sym run;
       memory = let Serving : Memory → Type 0 = λ m. Serves setup u.ram u.devices m in subst Serving (sym memory) at.memory;
@@ -257,7 +256,7 @@ all_same p q a (suc n) same =
 pub all_spent : (setup : Setup) (u : Machine) (player : Player) → IsAt setup u player → list_all (is_spent u.devices) (hart_numbers setup) ≡ list_all is_done player.progress.items
 all_spent setup u player at =
     let other = some_hart player.harts.items (omega (arith, at.some, at.harts)) in
-    let fars : player.progress.items ≡ map (progress_at player) (range_with_len 0 setup.harts) = fill_by_all (progress_at player) player.progress.items setup.harts progress.Begun at.progress (λ k below. refl) in
+    let fars : player.progress.items ≡ map (progress_at player) (range_with_len 0 setup.harts) = fill_by_all (progress_at player) player.progress.items setup.harts begun at.progress (λ k below. refl) in
     all_same (is_spent u.devices) (λ k. is_done (progress_at player k)) 0 setup.harts (λ k below. (at.each k other (omega (arith, below))).spent)
     ∙ sym (list_all-map is_done (progress_at player) (range_with_len 0 setup.harts))
     ∙ ap (list_all is_done) (sym fars)

@@ -11,7 +11,7 @@ use Rattle.flex_base.specs.Unsplit.{Instruction, instruction_from, begin}
 use Rattle.transplant_plan.specs.Split.{Splitting}
 use Rattle.flex_base.specs.declared.class.Class.TheVariants as class
 use Rattle.flex_base.specs.declared.settings.Settings.{Settings}
-use Rattle.hart_story.specs.Progress.{IsIn, IsSoundProgress, node, is_done}
+use Rattle.hart_story.specs.Progress.{IsIn, IsSoundProgress, begun, node, is_done}
 use Rattle.hart_story.specs.declared.hart.Hart.{Hart}
 use Rattle.hart_story.specs.declared.progress.Progress.{Progress}
 use Rattle.mem_lines.specs.Bank.{Bank}
@@ -49,12 +49,13 @@ starts image settings player bank lawful begins aligned keeps =
     let each = λ (h : ℕ) (other : Hart) (below : h < setup.harts).
     let hart = get_or player.harts.items h other in
     let Sound : Progress → Type 0 = λ p. IsSoundProgress (layout_of settings) hart p in
+    let sound : Sound begun = record { stage = tt; found = tt } in
     let there : IsIn setup (instruction_from (start h image.entry)) hart (progress_at player h) (layout_of settings) settings.budget = record {
       of = record { harts = refl; ram = refl; budget_is = refl; whole = lawful_whole settings lawful };
       stands = begins.harts.each h other below;
       fit = begins_fit setup.harts setup.ram setup.budget h image.entry below aligned;
       reached = ap (node setup (start h image.entry)) (sym (begins.progress.1 h));
-      sound = subst Sound (sym (begins.progress.1 h)) tt;
+      sound = subst Sound (sym (begins.progress.1 h)) sound;
     } in
     let AtHalf : Instruction → Type 0 = λ x. IsIn setup x hart (progress_at player h) (layout_of settings) settings.budget in
     let in_story = subst AtHalf (sym (instruction_at-begin setup h below)) there in

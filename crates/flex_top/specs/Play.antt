@@ -11,10 +11,9 @@ use Rattle.transplant_plan.specs.Split.{split_run, first_split}
 use Rattle.flex_base.specs.declared.settings.Layout.{Layout}
 use Rattle.flex_base.specs.declared.settings.Settings.{Settings}
 use Rattle.hart_story.specs.StandsFor.{StandsFor}
-use Rattle.hart_story.specs.Progress.{IsIn, is_done, left}
+use Rattle.hart_story.specs.Progress.{IsIn, begun, is_done, left}
 use Rattle.hart_story.specs.declared.hart.Hart.{Hart}
 use Rattle.hart_story.specs.declared.progress.Progress.{Progress}
-use Rattle.hart_story.specs.declared.progress.Progress.TheVariants as progress
 use Rattle.mem_lines.specs.Bank.{Bank}
 use Rattle.flex_top.specs.Memory.{Serves}
 use Rattle.flex_top.specs.Splitting.{splitting_of}
@@ -27,7 +26,7 @@ use Rattle.flex_top.specs.declared.player.Stuck.TheVariants as stuck
 
 -- how far the hart of this number is in its instruction
 abbrev pub progress_at : Player → ℕ → Progress
-progress_at player h = slice_index_or player.progress.items h progress.Begun
+progress_at player h = slice_index_or player.progress.items h begun
 
 abbrev pub layout_of : Settings → Layout
 layout_of settings = record { harts = settings.harts; ram = settings.ram }
@@ -135,6 +134,6 @@ pub record AreStarted (entry harts : ℕ) (made : List Hart) : Type 0 where
 pub record IsStarted (player : Player) (settings : Settings) (entry : ℕ) (bank : Bank) : Type 0 where
   pub settings_is : player.settings ≡ settings
   pub harts : AreStarted entry settings.harts player.harts.items
-  pub progress : (length player.progress.items ≡ settings.harts) × ((h : ℕ) → progress_at player h ≡ progress.Begun)
+  pub progress : (length player.progress.items ≡ settings.harts) × ((h : ℕ) → progress_at player h ≡ begun)
   pub run : splitting_of player.run ≡ first_split default_plan settings.harts
   pub memory : player.memory ≡ record { lines = bank; time = 0 }

@@ -223,11 +223,5 @@ fn first_harts(alloc: Global, count: u8, entry: u64) -> Result<Vec<Hart>, AllocE
 fn all_done(progress: &[Progress]) -> bool
     ensures { result ≡ list_all is_done progress.now }
 {
-    progress.iter().all(|p| is_done(p))
-}
-
-fn is_done(progress: &Progress) -> bool
-    ensures { result ≡ is_done progress.now }
-{
-    matches!(progress, Progress::Over)
+    progress.iter().all(|p| p.is_over())
 }

@@ -1,7 +1,6 @@
 -- What is needed is what the machine's hart wants; the player follows it.
 use Rattle.std.proofs.Common.{◌≡◌, ◌++◌, ◌∷◌, [], ◌||◌, Some, refl, ap, sym, subst, ◌∙◌, ◌<◌, length, set, arith}
 use Rattle.flex_base.specs.Unsplit.{Machine, instruction_at, instruction_from, want_of, reply_to, does}
-use Rattle.flex_base.specs.StoryTree.{want}
 use Rattle.flex_base.specs.Built.{is_built}
 use Rattle.flex_base.specs.Classes.{class_of_access}
 use Rattle.transplant_plan.specs.Assignment.{default_plan}
@@ -12,12 +11,11 @@ use Rattle.flex_base.specs.declared.class.Class.{Class}
 use Rattle.flex_base.specs.declared.event.What.TheVariants as what
 use Rattle.flex_base.proofs.Machines.{step_over}
 use Rattle.flex_base.proofs.Turns.{turn_of-asks, turn_of-ends, turn_of-over, turn_of-begins, built_here, unbuilt_here, unbuilt_busy}
-use Rattle.hart_story.specs.Progress.{IsIn, node}
+use Rattle.hart_story.specs.Progress.{IsIn, IsSoundProgress, begun}
 use Rattle.hart_story.specs.Need.{need_of}
 use Rattle.hart_story.specs.declared.hart.Hart.{Hart}
 use Rattle.hart_story.specs.declared.progress.Need.TheVariants as need
-use Rattle.hart_story.specs.declared.progress.Progress.TheVariants as progress
-use Rattle.hart_story.proofs.Asking.{ends_not_done}
+use Rattle.hart_story.proofs.Asking.{done_over, ends_not_done}
 use Rattle.hart_story.proofs.Needing.{needs_ask, needs_finish, needs_later}
 use Rattle.flex_top.specs.Memory.{Serves, ram_after, devices_after}
 use Rattle.flex_top.specs.Play.{IsAt, progress_at, layout_of}
@@ -117,12 +115,13 @@ returns-in_ok-add_end-in-Finish-clause-after c = λ setup u at.
     let ending = needs_finish c.in-Finish.class (want_of setup u h) told in
     let there = in_hart setup u player h c.index_mut-in-Finish.result.now c.index-in-Finish.result.now at below c.index_mut-in-Finish.ensures.value c.index-in-Finish.ensures in
     let ended = c.finish-part.ensures.ends setup i ending.part ending.after there ending.ends in
-    let hart : IsIn setup (instruction_from ended.after) c.finish-part.new.hart progress.Begun (layout_of (settings_of setup)) setup.budget = record {
+    let sound : IsSoundProgress (layout_of (settings_of setup)) c.finish-part.new.hart begun = record { stage = tt; found = tt } in
+    let hart : IsIn setup (instruction_from ended.after) c.finish-part.new.hart begun (layout_of (settings_of setup)) setup.budget = record {
       of = (at.each h c.index.result.now below).in_story.of;
       stands = ended.stands;
       fit = ended.fit;
       reached = refl;
-      sound = tt;
+      sound = sound;
     } in
     let before = ends_not_done setup i (progress_at player h) ending.part ending.after (at.each h c.index.result.now below).in_story.reached ending.ends in
     record {
@@ -139,7 +138,7 @@ returns-in-Over-clause-after c = λ setup u at.
     let h = c.args.h in
     let below : h < setup.harts = omega (arith, c.requires.hart, at.harts) in
     let there = in_hart setup u player h c.index.result.now c.index-2.result.now at below c.index.ensures c.index-2.ensures in
-    let over = ap want (there.reached ∙ ap (node setup (instruction_at u h).state) (c.in-Over.ensures.over refl)) in
+    let over = done_over setup (instruction_at u h) c.index-2.result.now there.reached (c.in-Over.ensures.over refl) in
     let still = step_over setup u h below over in
     let At : Machine → Type 0 = λ m. IsAt setup m player in
     record {
