@@ -5,7 +5,7 @@ use Rattle.flex_base.specs.DevicesSoFar.{is_retire}
 use Rattle.flex_base.specs.Place.{in_ram}
 use Rattle.flex_base.specs.Setup.{Setup}
 use Rattle.flex_base.specs.State.{State}
-use Rattle.flex_base.specs.StoryTree.{Want, Asks, Ends, Story, Says, want, after_one}
+use Rattle.flex_base.specs.StoryTree.{Want, Asks, Ends, IsOver, Story, Says, want, after_one}
 use Rattle.flex_base.specs.Story.{story, after_pulse, begins, fetches_at, is_tick}
 use Rattle.flex_base.specs.Unsplit.{Instruction}
 use Rattle.flex_base.specs.declared.access.Access.{Access}
@@ -239,3 +239,12 @@ pub asks_not_done : (setup : Setup) (i : Instruction) (p : Progress) (access : A
     → want_in setup i ≡ Asks access → is_done p ≡ false
 asks_not_done setup i p access reached asks =
     asks_by setup i.state p.lines p.found p.stage access (node_wants setup i p (Asks access) reached asks)
+
+over_by : (setup : Setup) (a : State) (lines : ℕ) (found : Found) (here : Stage) → is_over_at here ≡ true
+    → want (node_at setup a lines found here) ≡ IsOver
+over_by setup a lines found stage.Over e = refl
+over_by setup a lines found other e = absurd cc
+
+-- a hart that has nothing left to do is over
+pub done_over : (setup : Setup) (i : Instruction) (p : Progress) → Reached setup i p → is_done p ≡ true → want_in setup i ≡ IsOver
+done_over setup i p reached done = ap want reached ∙ over_by setup i.state p.lines p.found p.stage done
