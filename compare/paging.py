@@ -43,8 +43,8 @@ INDICES = [[FRAMES // PAGE + n for n in range(FRAME_COUNT)], [0, 40, 511], [0, 1
 # What is loaded and stored of a frame, and where the code stands that adds to a register and jumps back.
 USED, LANDING = 64, 0x800
 COUNTED = 10
-# Frames outside RAM, multiples of a gigapage's.
-FAR = [0x100000, 0x1000000, 2**28, 2**43]
+# Frames outside RAM, at which gigapages may begin; two of them lead into RAM where high bits are lost.
+FAR = [0x100000, 2**28, 2**32 + 0x80000, 2**43 + 0x80000]
 
 V, R, W, X, OF_USER, GLOBAL, A, D = (1 << bit for bit in range(8))
 SUM, MXR = 1 << 18, 1 << 19
@@ -140,9 +140,10 @@ class Program(privileged.Program):
 
     def address(self):
         """Of a page, where translation is on."""
-        indices = [self.chance.choice(found) for found in INDICES]
-        found = canonical(indices)
-        return found ^ 1 << self.chance.randrange(39, 64) if self.chance.random() < 0.05 else found
+        found = canonical([self.chance.choice(indices) for indices in INDICES])
+        if self.chance.random() < 0.05:
+            return found ^ 1 << self.chance.choice([39, 63, self.chance.randrange(39, 64)])
+        return found
 
     def pointed(self, width):
         place = self.address() + self.chance.randrange(USED // width) * width
