@@ -63,6 +63,7 @@ pub(super) fn walking_hart(mode: Mode, status: u64) -> Hart
     let mut hart = hart_in(mode, &[(SATP, SV39), (MSTATUS, status)]);
     hart.regs.x[5] = 0x0123_4567_89ab_cdef;
     hart.regs.x[6] = DATA;
+    hart.regs.x[10] = 10;
     hart
 }
 

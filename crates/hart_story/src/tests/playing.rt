@@ -4,6 +4,7 @@ ghost use Rattle.hart_story.specs.CanBegin.{CanBegin};
 ghost use Rattle.flex_base.specs.Forms.{HasForm, TellsValue, TellsLines};
 ghost use Rattle.flex_base.specs.Setup.{Setup};
 ghost use Rattle.flex_base.specs.State.{State, IsFit, IsReservation};
+ghost use Rattle.flex_base.specs.Translation.{AreLeaves};
 ghost use Rattle.flex_base.specs.Unsplit.{Instruction};
 ghost use Rattle.hart_story.specs.Progress.{IsIn};
 ghost use Rattle.hart_story.specs.StandsFor.{StandsFor};
@@ -97,7 +98,7 @@ pub(super) fn end(
 
 fn assert_fit(rt: &impl Abort, hart: &Hart, budget: u64)
     requires { CanBegin 4 hart.now }
-    ensures { (a : State) → StandsFor hart.now a → IsFit 4 1048576 budget a }
+    ensures { (a : State) → StandsFor hart.now a → AreLeaves a.leaves → IsFit 4 1048576 budget a }
 {
     assert!(rt; hart.regs.pc % 4 == 0);
     assert!(rt; hart.regs.ends <= budget);
