@@ -5,6 +5,7 @@ use Rattle.hart_story.proofs.Beginning.{leaves_in, are_kept}
 use Rattle.hart_story.proofs.tests.pages.keeping.Goals as goal
 
 pub returns : goal.returns
-returns g c = λ kept.
+returns c kept =
     let found = leaves_in c.args.kept kept in
-    are_kept _ (found.leaves ++ c.args.leaf ∷ []) (c.keep.ensures found.leaves found.latest) (leaves_push found.leaves c.args.leaf found.are c.requires)
+    let more = found.leaves ++ c.args.leaf ∷ [] in
+    are_kept _ more (c.keep.ensures found.leaves found.latest) (leaves_push found.leaves c.args.leaf found.are c.requires)
