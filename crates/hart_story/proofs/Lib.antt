@@ -3,3 +3,6 @@ pub mod Needing
 pub mod Operands
 pub mod Reserving
 pub mod Committing
+pub mod Walking
+pub mod Seeing
+pub mod Placing

@@ -59,7 +59,7 @@ pub(crate) fn access_stage(
     requires { IsMemoryWork work }
     ensures goes { (setup : Setup) (budget : ℕ) (a : State) → IsOf setup layout.now budget → Shows hart.now a
         → translated_of setup.ram a (kind_of work.op) work.address (reaching work setup) came.now
-            ≡ stage_of setup (state_after a came.now) result }
+        ≡ stage_of setup (state_after a came.now) result }
     ensures sound { (count : ℕ) → IsAlignedWork work → IsSoundTranslated layout.now.ram work.address came.now
         → (entries_in came.now ≢ 0 → count ≤ 1) → IsSoundStage layout.now hart.now count result }
     ensures nearer { left_at result ≤ access_left came.now }
@@ -99,7 +99,7 @@ fn place_anywhere(layout: &Layout, work: MemoryWork, address: u64) -> Stage
     requires { IsMemoryWork work }
     ensures places { (setup : Setup) (budget : ℕ) (a : State) → IsOf setup layout.now budget
         → at_place (place_of setup.harts setup.ram address work.width) (asking work a address)
-            (traps a (access_fault (kind_of work.op)) work.address) ≡ stage_of setup a result }
+        (traps a (access_fault (kind_of work.op)) work.address) ≡ stage_of setup a result }
     ensures sound { (hart : Hart) (count : ℕ)
         → (in_ram layout.now.ram address work.width ≡ true → IsSoundStage layout.now hart count (Stage.Access address work))
         → IsSoundStage layout.now hart count result }
@@ -119,7 +119,7 @@ fn place_in_ram(layout: &Layout, work: MemoryWork, address: u64, made: Stage) ->
     requires goes_on { is_over_at made ≡ false }
     ensures places { (setup : Setup) (budget : ℕ) (a : State) → IsOf setup layout.now budget
         → (if in_ram setup.ram address work.width then stage_of setup a made
-            else traps a (access_fault (kind_of work.op)) work.address) ≡ stage_of setup a result }
+        else traps a (access_fault (kind_of work.op)) work.address) ≡ stage_of setup a result }
     ensures sound { (hart : Hart) (count : ℕ)
         → (in_ram layout.now.ram address work.width ≡ true → IsSoundStage layout.now hart count made)
         → IsSoundStage layout.now hart count result }
@@ -138,10 +138,10 @@ fn conditional(hart: &Hart, work: MemoryWork, address: u64) -> Stage
     requires { IsMemoryWork work }
     ensures works { (setup : Setup) (a : State) → Shows hart.now a
         → (if is_reserved a.reservation (reservation_set address) then asking work a address else concludes a work.rd 1)
-            ≡ stage_of setup a result }
+        ≡ stage_of setup a result }
     ensures sound { (layout : Layout) (count : ℕ)
         → (is_reserved hart.now.regs.reservation (reservation_set address) ≡ true
-            → IsSoundStage layout hart.now count (Stage.Access address work))
+        → IsSoundStage layout hart.now count (Stage.Access address work))
         → IsSoundStage layout hart.now count result }
     ensures nearer { left_at result < 2 }
     ensures goes_on { is_over_at result ≡ false }
@@ -165,8 +165,7 @@ pub(crate) fn end_conditional(hart: &Hart, rd: u8, status: u64) -> End
 
 // The access of the instruction at a physical address.
 pub(crate) fn access_of(work: &MemoryWork, address: u64) -> Access
-    requires { IsMemoryWork work.now }
-    ensures { result ≡ access_of work.now address }
+    ensures { IsMemoryWork work.now → result ≡ access_of work.now address }
 {
     let width = work.width;
     match work.op {

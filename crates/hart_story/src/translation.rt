@@ -94,6 +94,7 @@ pub(crate) fn arrive(hart: &Hart, layout: &Layout, kind: Kind, va: u64, walk: Wa
 fn use_kept(hart: &Hart, kind: Kind, leaf: &Leaf, va: u64) -> Translated
     ensures uses { (ram : ℕ) (a : State) (next : State → ℕ → Story) → IsLeaf leaf.now → Shows hart.now a
         → uses ram a kind va next a leaf.now ≡ translated_of ram a kind va next result }
+    ensures same { (a : State) → state_after a result ≡ a }
     ensures sound { (ram : ℕ) → IsSoundTranslated ram va result }
 {
     match address_by(hart, kind, leaf, va) {
@@ -106,6 +107,7 @@ fn use_found(hart: &Hart, kind: Kind, leaf: Leaf, va: u64) -> Translated
     requires { IsLeaf leaf }
     ensures uses { (ram : ℕ) (a : State) (next : State → ℕ → Story) → Shows hart.now a
         → uses ram a kind va next (with_leaf a leaf) leaf ≡ translated_of ram a kind va next result }
+    ensures none { entries_in result ≡ 0 }
     ensures sound { (ram : ℕ) → IsSoundTranslated ram va result }
 {
     match address_by(hart, kind, &leaf, va) {
