@@ -7,8 +7,7 @@ pub returns : goal.returns
 returns g c =
     let hart = c.args.hart.now in
     let (fit, kept) = c.requires.fit in
-    let found = leaves_in hart.kept kept in
-    (
+    let found = leaves_in hart.kept kept in (
       setup_of c.args.layout.now c.args.budget,
       instruction_from (state_of hart found.leaves),
       begun_in hart c.begin.result c.args.layout.now c.args.budget found c.begin.ensures c.requires.layout c.assert_fit.ensures,
