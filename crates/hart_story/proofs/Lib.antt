@@ -6,3 +6,4 @@ pub mod Committing
 pub mod Walking
 pub mod Seeing
 pub mod Placing
+pub mod Asking
