@@ -175,12 +175,11 @@ fn make(rt: &impl Abort, hart: &mut Hart, word: u32, value: u64) -> (Need, EndPa
 
 #[test]
 fn makes_instructions(rt: HostRuntime) {
-    let mut hart = Hart::start(HartId(3), 0x8000_0000);
     let mut registers = [0; 32];
     registers[10] = 3;
-    let mut begun = hart_at(0x8000_0000, 0, false);
-    begun.regs.x = registers;
-    assert_eq!(rt; hart, begun);
+    let mut hart = hart_at(0x8000_0000, 0, false);
+    hart.regs.x = registers;
+    assert_eq!(rt; Hart::start(HartId(3), 0x8000_0000), hart);
     let minus_1 = 0xffff_ffff_ffff_ffff;
     let table = [
         // addi x5, x0, 7

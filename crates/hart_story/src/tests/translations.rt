@@ -8,7 +8,7 @@ use super::pages::{
     data_leaf, hart_keeping, make_all, make_word, pte, walk_to, walking_hart,
 };
 use super::returns::{SFENCE_VMA, TSR, TVM, TW};
-use super::{MSTATUS, SATP, written};
+use super::{MSTATUS, SATP, lr, sc, written};
 use crate::Hart;
 use flex_base::{Class, Leaf, Mode};
 use hart_state::Kept;
@@ -116,6 +116,17 @@ fn assert_left(rt: &impl Abort, value: u64, satp: u64, kept: &Kept) {
     let _ = make_word(rt, &mut hart, CSRW, &[], &[]);
     assert_eq!(rt; hart.csrs.satp(), satp);
     assert_eq!(rt; hart.kept, *kept, "{value:x}");
+}
+
+// A load-reserved and a store-conditional reserve by the physical address.
+#[test]
+fn reserves_where_the_page_leads(rt: HostRuntime) {
+    let mut hart = hart_keeping(Mode::S, 0, 0xc7);
+    let told = make_word(&rt, &mut hart, LR, &[(lr(PLACE, 8), 77)], &[]);
+    assert_eq!(rt; told, (Class::Atomic, 10, 77));
+    assert_eq!(rt; hart.regs.reservation, Some(PLACE));
+    let told = make_word(&rt, &mut hart, SC, &[(sc(PLACE, 8, 5), 0)], &[]);
+    assert_eq!(rt; told, (Class::Atomic, 10, 0));
 }
 
 // A store writes the entry by which its own page was found. The page is kept as it was until a fence.
