@@ -25,7 +25,7 @@ use Rattle.flex_base.proofs.Machines.{step_is, instruction-set}
 use Rattle.hart_story.specs.Progress.{IsIn, begun, is_done}
 use Rattle.hart_story.specs.declared.hart.Hart.{Hart}
 use Rattle.hart_story.specs.declared.progress.Progress.{Progress}
-use Rattle.hart_story.proofs.Busy.{asks_not_done}
+use Rattle.hart_story.proofs.Asking.{asks_not_done}
 use Rattle.flex_top.specs.Memory.{Serves, ram_after, devices_after}
 use Rattle.flex_top.specs.declared.memory.Memory.{Memory}
 use Rattle.flex_top.specs.Splitting.{splitting_of}

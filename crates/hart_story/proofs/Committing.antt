@@ -13,8 +13,10 @@ use Rattle.flex_base.specs.declared.class.Class.{Class}
 use Rattle.flex_base.specs.declared.event.EndPart.{EndPart}
 use Rattle.flex_base.specs.declared.hart.Mode.{Mode}
 use Rattle.hart_state.specs.IsLatest.{IsLatest}
+use Rattle.flex_base.specs.declared.settings.Layout.{Layout}
+use Rattle.hart_state.specs.declared.kept.Kept.{Kept}
 use Rattle.hart_state.specs.declared.regs.Regs.{Regs}
-use Rattle.hart_story.specs.Outcome.{outcome_of, is_end}
+use Rattle.hart_story.specs.Outcome.{outcome_of, is_end, IsSoundOutcome}
 use Rattle.hart_story.specs.Progress.{CommitsTo, EndsWith}
 use Rattle.hart_story.specs.StandsFor.{StandsFor}
 use Rattle.hart_story.specs.declared.hart.Hart.{Hart}
@@ -108,3 +110,16 @@ ends_with setup (Closes made after) part hart committed = record {
 }
 ends_with setup StaysOver part hart committed = absurd committed
 ends_with setup ComesLater part hart committed = absurd committed
+
+-- what is sound of a hart is sound of it whatever translations it keeps
+pub sound_kept : (layout : Layout) (hart : Hart) (kept : Kept) (o : Outcome) → IsSoundOutcome layout hart o
+    → IsSoundOutcome layout (record hart { kept = kept }) o
+sound_kept layout hart kept (outcome.End end) sound = record { register = sound.register; aligned = sound.aligned; reserved = sound.reserved }
+sound_kept layout hart kept (outcome.Trap cause tval) sound = sound
+sound_kept layout hart kept (outcome.AskPending does rd rs1 number) sound = sound
+sound_kept layout hart kept (outcome.AskTime does rd rs1 number) sound = sound
+sound_kept layout hart kept (outcome.WriteCsr number rd old value) sound = sound
+sound_kept layout hart kept outcome.Mret sound = sound
+sound_kept layout hart kept outcome.Sret sound = sound
+sound_kept layout hart kept outcome.FenceMemory sound = sound
+sound_kept layout hart kept outcome.Unbuilt sound = sound

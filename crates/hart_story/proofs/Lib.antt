@@ -5,4 +5,4 @@ pub mod Committing
 pub mod Walking
 pub mod Seeing
 pub mod Placing
-pub mod Busy
+pub mod Asking

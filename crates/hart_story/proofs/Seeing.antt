@@ -8,8 +8,8 @@ use Rattle.flex_base.specs.StoryTree.{Story}
 use Rattle.flex_base.specs.Translation.{AreLeaves}
 use Rattle.flex_base.specs.declared.translation.Leaf.{Leaf}
 use Rattle.hart_story.specs.Found.{Sees, leaves_of, state_at}
-use Rattle.hart_story.specs.Progress.{node_at, has_begun}
-use Rattle.hart_story.specs.Stage.{stage_of}
+use Rattle.hart_story.specs.Progress.{node_at}
+use Rattle.hart_story.specs.Stage.{stage_of, has_begun}
 use Rattle.hart_story.specs.StandsFor.{StandsFor, Shows}
 use Rattle.hart_story.specs.declared.found.Found.{Found}
 use Rattle.hart_story.specs.declared.hart.Hart.{Hart}

@@ -1,5 +1,5 @@
 -- How far a hart in the code has come in the story of its instruction.
-use Rattle.std.specs.Prelude.{◌≡◌, ℕ, ◌<◌, Bool, true, false, Option, fold}
+use Rattle.std.specs.Prelude.{◌≡◌, ℕ, ◌<◌, Bool, Option, fold}
 use Rattle.flex_base.specs.Setup.{Setup}
 use Rattle.flex_base.specs.State.{State, IsFit}
 use Rattle.flex_base.specs.StoryTree.{Want, Asks, Ends, Story, Closes, goes}
@@ -63,11 +63,6 @@ pub record IsHere (setup : Setup) (a : State) (hart : Hart) (progress : Progress
   pub stands : StandsFor hart a
   pub fit : IsFit setup.harts setup.ram setup.budget a
   pub sound : IsSoundProgress layout hart progress
-
--- something has happened
-abbrev pub has_begun : Stage → Bool
-has_begun stage.Begun = false
-has_begun other = true
 
 -- the hart and its progress stand for this instruction in flight, in a run of this layout and budget
 pub record IsIn (setup : Setup) (i : Instruction) (hart : Hart) (progress : Progress) (layout : Layout) (budget : ℕ) : Type 0 where

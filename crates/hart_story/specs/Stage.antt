@@ -85,6 +85,11 @@ left_at (stage.Working (outcome.AskTime does rd rs1 number)) = 1
 left_at (stage.Working other) = 0
 left_at stage.Over = 0
 
+-- something has happened
+abbrev pub has_begun : Stage → Bool
+has_begun stage.Begun = false
+has_begun other = true
+
 -- the hart has nothing left to do
 abbrev pub is_over_at : Stage → Bool
 is_over_at stage.Over = true

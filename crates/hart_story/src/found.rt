@@ -30,9 +30,9 @@ impl Found {
 
     pub(crate) fn none() -> Found
         ensures { result ≡ record {
-            first = record { page = 0; frame = 0; flags = 0 };
-            second = record { page = 0; frame = 0; flags = 0 };
-            count = 0;
+          first = record { page = 0; frame = 0; flags = 0 };
+          second = record { page = 0; frame = 0; flags = 0 };
+          count = 0;
         } }
     {
         Found {

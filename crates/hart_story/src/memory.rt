@@ -18,7 +18,7 @@ ghost use Rattle.hart_story.specs.Memory.{kind_of, reaching, access_of, asking, 
 ghost use Rattle.hart_story.specs.Translated.{translated_of, state_after, entries_in, access_left, IsSoundTranslated};
 ghost use Rattle.hart_story.specs.Outcome.{IsOf, EndsAs, IsSoundEnd};
 ghost use Rattle.hart_story.specs.StandsFor.{Shows};
-ghost use Rattle.hart_story.specs.Stage.{stage_of, left_at, is_over_at, ComesTo, IsSoundStage};
+ghost use Rattle.hart_story.specs.Stage.{stage_of, has_begun, left_at, is_over_at, ComesTo, IsSoundStage};
 
 use crate::causes::{access_fault, misaligned};
 use crate::ends::end_reserving;
@@ -39,6 +39,7 @@ pub(crate) fn reach(hart: &Hart, layout: &Layout, found: &Found, work: MemoryWor
         (λ setup a. reaches setup a (kind_of work.op) work.width work.address (reaching work setup)) result }
     ensures sound { (count : ℕ) → count ≤ 1 → IsSoundStage layout.now hart.now count result }
     ensures nearer { left_at result < 6 }
+    ensures begun { has_begun result ≡ true }
     ensures goes_on { is_over_at result ≡ false }
 {
     let kind = kind_of(work.op);
@@ -63,6 +64,7 @@ pub(crate) fn access_stage(
     ensures sound { (count : ℕ) → IsAlignedWork work → IsSoundTranslated layout.now.ram work.address came.now
         → (entries_in came.now ≢ 0 → count ≤ 1) → IsSoundStage layout.now hart.now count result }
     ensures nearer { left_at result ≤ access_left came.now }
+    ensures begun { has_begun result ≡ true }
     ensures goes_on { is_over_at result ≡ false }
 {
     match *came {
@@ -81,6 +83,7 @@ fn place(hart: &Hart, layout: &Layout, work: MemoryWork, address: u64) -> Stage
     ensures sound { (count : ℕ) → is_multiple address work.width ≡ true
         → IsSoundStage layout.now hart.now count result }
     ensures nearer { left_at result < 2 }
+    ensures begun { has_begun result ≡ true }
     ensures goes_on { is_over_at result ≡ false }
 {
     match work.op {
@@ -104,6 +107,7 @@ fn place_anywhere(layout: &Layout, work: MemoryWork, address: u64) -> Stage
         → (in_ram layout.now.ram address work.width ≡ true → IsSoundStage layout.now hart count (Stage.Access address work))
         → IsSoundStage layout.now hart count result }
     ensures nearer { left_at result < 2 }
+    ensures begun { has_begun result ≡ true }
     ensures goes_on { is_over_at result ≡ false }
 {
     match layout.place(address, work.width) {
@@ -116,6 +120,7 @@ fn place_anywhere(layout: &Layout, work: MemoryWork, address: u64) -> Stage
 // An atomic instruction, which comes to this in RAM.
 fn place_in_ram(layout: &Layout, work: MemoryWork, address: u64, made: Stage) -> Stage
     requires nearer { left_at made < 2 }
+    requires begun { has_begun made ≡ true }
     requires goes_on { is_over_at made ≡ false }
     ensures places { (setup : Setup) (budget : ℕ) (a : State) → IsOf setup layout.now budget
         → (if in_ram setup.ram address work.width then stage_of setup a made
@@ -124,6 +129,7 @@ fn place_in_ram(layout: &Layout, work: MemoryWork, address: u64, made: Stage) ->
         → (in_ram layout.now.ram address work.width ≡ true → IsSoundStage layout.now hart count made)
         → IsSoundStage layout.now hart count result }
     ensures nearer { left_at result < 2 }
+    ensures begun { has_begun result ≡ true }
     ensures goes_on { is_over_at result ≡ false }
 {
     if is_in_ram(layout, address, work.width) {
@@ -144,6 +150,7 @@ fn conditional(hart: &Hart, work: MemoryWork, address: u64) -> Stage
         → IsSoundStage layout hart.now count (Stage.Access address work))
         → IsSoundStage layout hart.now count result }
     ensures nearer { left_at result < 2 }
+    ensures begun { has_begun result ≡ true }
     ensures goes_on { is_over_at result ≡ false }
 {
     if is_reserved(hart.regs.reservation, reservation_set(address)) {

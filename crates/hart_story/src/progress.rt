@@ -13,7 +13,8 @@ pub struct Progress {
 
 impl Progress {
     ghost use Rattle.std.specs.Prelude.{◌≡◌};
-    ghost use Rattle.hart_story.specs.Progress.{begun, has_begun, is_done};
+    ghost use Rattle.hart_story.specs.Progress.{begun, is_done};
+    ghost use Rattle.hart_story.specs.Stage.{has_begun};
 
     /// The beginning of an instruction.
     pub fn begin() -> Progress

@@ -4,7 +4,7 @@ ghost use Rattle.flex_base.specs.State.{State, IsFit};
 ghost use Rattle.flex_base.specs.Reservations.{IsOwn};
 ghost use Rattle.flex_base.specs.Translation.{AreLeaves};
 ghost use Rattle.flex_base.specs.Word.{is_multiple};
-ghost use Rattle.flex_base.specs.StoryTree.{Asks, Story, after_one, want};
+ghost use Rattle.flex_base.specs.StoryTree.{Asks, Ends, Story, after_one, want};
 ghost use Rattle.flex_base.specs.Story.{story, begins, fetches, fetches_at, after_pulse, is_tick};
 ghost use Rattle.flex_base.specs.Forms.{HasForm};
 ghost use Rattle.flex_base.specs.DevicesSoFar.{is_retire};
@@ -22,9 +22,9 @@ ghost use Rattle.hart_story.specs.Found.{leaves_of, state_at};
 ghost use Rattle.hart_story.specs.Memory.{asking, IsMemoryWork};
 ghost use Rattle.hart_story.specs.Need.{need_of, AsksPlaced, NeedsReserved};
 ghost use Rattle.hart_story.specs.Outcome.{IsOf, outcome_of, is_end, IsSoundOutcome};
-ghost use Rattle.hart_story.specs.Progress.{node, left, is_done, has_begun, IsSoundProgress, IsHere, IsIn, want_in, IsAsking, IsEnding, EndsWith, own_in};
+ghost use Rattle.hart_story.specs.Progress.{node, left, is_done, IsSoundProgress, IsHere, IsIn, want_in, IsAsking, IsEnding, EndsWith, own_in};
 ghost use Rattle.hart_story.specs.StandsFor.{StandsFor, Shows};
-ghost use Rattle.hart_story.specs.Stage.{stage_of, walking, left_at, is_over_at, tells_stop, IsReading, IsSoundAccess, IsSoundStage};
+ghost use Rattle.hart_story.specs.Stage.{stage_of, has_begun, walking, left_at, is_over_at, tells_stop, IsReading, IsSoundAccess, IsSoundStage};
 ghost use Rattle.hart_story.specs.Translated.{translated_of, state_after, entries_in, fetch_left, IsSoundTranslated};
 
 use crate::causes::INSTRUCTION_ACCESS_FAULT;
@@ -76,18 +76,11 @@ pub fn give(hart: &Hart, progress: &mut Progress, layout: &Layout, budget: u64, 
         → IsIn setup i hart.now progress.old layout.now budget → IsAsking setup i access → HasForm access reply
         → is_done progress.new ≡ (is_retire access || reply.stop) }
 {
-    if !progress.has_begun() {
-        if hart.regs.ends == budget {
-            progress.stage = Stage::Over;
-            return;
-        }
-        if hart.regs.due {
-            after_pulse(hart, progress, layout, reply);
-            return;
-        }
-        begin(hart, progress, layout, hart.regs.lines);
+    if progress.has_begun() {
+        go_on(hart, progress, layout, reply);
+    } else {
+        after_first(hart, progress, layout, budget, reply);
     }
-    go_on(hart, progress, layout, reply);
 }
 
 /// Ends the instruction: its results, `pc`, the counts and what its walks have found become the
@@ -129,10 +122,25 @@ fn at_end(hart: &Hart, progress: Progress, layout: &Layout) -> Ending
     ensures found { AreLeaves (leaves_of result.found) }
     ensures end { is_end result.outcome ≡ true }
 {
-    let mut progress = progress;
-    if !progress.has_begun() {
-        begin(hart, &mut progress, layout, hart.regs.lines);
+    if progress.has_begun() {
+        return ending_of(hart, progress, layout);
     }
+    let mut begun = progress;
+    begin(hart, &mut begun, layout, hart.regs.lines);
+    ending_of(hart, begun, layout)
+}
+
+fn ending_of(hart: &Hart, progress: Progress, layout: &Layout) -> Ending
+    requires sound { IsSoundProgress layout.now hart.now progress }
+    requires begun { has_begun progress.stage ≡ true }
+    requires ends { (setup : Setup) × (a : State) × (part : EndPart) × (after : State)
+        × (setup.ram ≡ layout.now.ram) × (want (node setup a progress) ≡ Ends part after) }
+    ensures node { (setup : Setup) (a : State)
+        → node setup a progress ≡ outcome_of (state_at a result.lines result.found) result.outcome }
+    ensures sound { IsSoundOutcome layout.now hart.now result.outcome }
+    ensures found { AreLeaves (leaves_of result.found) }
+    ensures end { is_end result.outcome ≡ true }
+{
     match progress.stage {
         Stage::Working(outcome) => Ending {
             lines: progress.lines,
@@ -169,7 +177,7 @@ fn begin(hart: &Hart, progress: &mut Progress, layout: &Layout, lines: u64)
 fn fetch_stage(hart: &Hart, layout: &Layout, came: &Translated) -> Stage
     ensures goes { (setup : Setup) (budget : ℕ) (a : State) → IsOf setup layout.now budget → Shows hart.now a
         → translated_of setup.ram a kind.Fetch a.pc (fetches_at setup) came.now
-            ≡ stage_of setup (state_after a came.now) result }
+        ≡ stage_of setup (state_after a came.now) result }
     ensures sound { (count : ℕ) → is_multiple hart.now.regs.pc 4 ≡ true
         → IsSoundTranslated layout.now.ram hart.now.regs.pc came.now
         → (entries_in came.now ≢ 0 → count ≡ 0) → count ≤ 1 → IsSoundStage layout.now hart.now count result }
@@ -326,6 +334,30 @@ fn outcome_need(outcome: &Outcome) -> Need
     }
 }
 
+// Goes on with the reply to the first access of the instruction.
+fn after_first(hart: &Hart, progress: &mut Progress, layout: &Layout, budget: u64, reply: Reply)
+    requires { (setup : Setup) × (a : State) × (access : Access) × IsHere setup a hart.now progress.old layout.now budget
+        × (want (story setup a) ≡ Asks access) × HasForm access reply }
+    ensures node { (setup : Setup) (a : State) (access : Access) → IsHere setup a hart.now progress.old layout.now budget
+        → want (story setup a) ≡ Asks access → after_one (story setup a) reply ≡ node setup a progress.new }
+    ensures sound { IsSoundProgress layout.now hart.now progress.new }
+    ensures nearer { left progress.new < 12 }
+    ensures over { (setup : Setup) (a : State) (access : Access) → IsHere setup a hart.now progress.old layout.now budget
+        → want (story setup a) ≡ Asks access → HasForm access reply
+        → is_done progress.new ≡ (is_retire access || reply.stop) }
+{
+    if hart.regs.ends == budget {
+        progress.stage = Stage::Over;
+        return;
+    }
+    if hart.regs.due {
+        after_pulse(hart, progress, layout, reply);
+        return;
+    }
+    begin(hart, progress, layout, hart.regs.lines);
+    go_on(hart, progress, layout, reply);
+}
+
 // A pulse tells the interrupt lines, with which the instruction then begins, or that the run is to
 // stop.
 fn after_pulse(hart: &Hart, progress: &mut Progress, layout: &Layout, reply: Reply)
@@ -393,7 +425,7 @@ fn after_entry(
     requires { IsReading layout.now.ram walk }
     ensures arrives { (setup : Setup) (budget : ℕ) (a : State) (next : State → ℕ → Story) → IsOf setup layout.now budget
         → Shows hart.now a → after_one (walking setup.ram a kind va next walk) reply
-            ≡ translated_of setup.ram a kind va next result }
+        ≡ translated_of setup.ram a kind va next result }
     ensures nearer { entries_in result ≢ 0 → entries_in result < entries_left walk }
     ensures sound { IsSoundTranslated layout.now.ram va result }
 {

@@ -48,7 +48,13 @@ pub enum Translated {
 }
 
 // The translation of an address, as far as it comes without a read of memory.
-pub(crate) fn translate(hart: &Hart, layout: &Layout, found: &Found, kind: Kind, va: u64) -> Translated
+pub(crate) fn translate(
+    hart: &Hart,
+    layout: &Layout,
+    found: &Found,
+    kind: Kind,
+    va: u64,
+) -> Translated
     ensures translates { (setup : Setup) (budget : ℕ) (a : State) (next : State → ℕ → Story) → IsOf setup layout.now budget
         → Sees hart.now found.now a → translates setup.ram a kind va next ≡ translated_of setup.ram a kind va next result }
     ensures same { (a : State) → state_after a result ≡ a }

@@ -1,10 +1,10 @@
-ghost use Rattle.std.specs.Prelude.{◌≡◌, ◌<◌, ◌≤◌, ℕ, false};
+ghost use Rattle.std.specs.Prelude.{◌≡◌, ◌<◌, ◌≤◌, ℕ, false, true};
 ghost use Rattle.flex_base.specs.Story.{works};
 ghost use Rattle.flex_base.specs.Decoding.{decoded};
 ghost use Rattle.hart_story.specs.Operands.{HasOperands};
 ghost use Rattle.hart_story.specs.declared.outcome.Outcome.TheVariants as Outcome;
 ghost use Rattle.hart_story.specs.declared.stage.Stage.TheVariants as Stage;
-ghost use Rattle.hart_story.specs.Stage.{left_at, is_over_at, ComesTo, IsSoundStage};
+ghost use Rattle.hart_story.specs.Stage.{left_at, has_begun, is_over_at, ComesTo, IsSoundStage};
 
 use crate::csr::use_csr;
 use crate::ends::{end_with, end_without};
@@ -26,6 +26,7 @@ pub(crate) fn work(hart: &Hart, layout: &Layout, found: &Found, word: u32) -> St
     ensures works { ComesTo layout.now hart.now found.now (λ setup a. works setup a word (decoded word)) result }
     ensures sound { (count : ℕ) → count ≤ 1 → IsSoundStage layout.now hart.now count result }
     ensures nearer { left_at result < 6 }
+    ensures begun { has_begun result ≡ true }
     ensures goes_on { is_over_at result ≡ false }
 {
     let pc = hart.regs.pc;

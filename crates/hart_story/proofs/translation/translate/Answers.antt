@@ -31,7 +31,7 @@ held hart found a page va result sees looked is =
 
 pub returns-in-Some-clause-translates : goal.returns-in-Some-clause-translates
 returns-in-Some-clause-translates c = λ setup budget a next of sees.
-    let is : Some c.in-Some.leaf ≡ kept a.leaves (page_of c.args.va) = sym c.in-Some.is 
+    let is : Some c.in-Some.leaf ≡ kept a.leaves (page_of c.args.va) = sym c.in-Some.is
     ∙ held c.args.hart.now c.args.found.now a c.page_of.result c.args.va c.look.result sees (c.look.ensures sees.before sees.latest) c.page_of.ensures in
     let Leaves : Option Leaf → Type 0 = λ l. IfLeaf l in
     translates_looks setup.ram a c.args.kind c.args.va next (Some c.in-Some.leaf)
@@ -46,7 +46,7 @@ returns-in-Some-clause-sound c = c.use_kept.ensures.sound c.args.layout.now.ram
 
 pub returns-in-None-clause-translates : goal.returns-in-None-clause-translates
 returns-in-None-clause-translates c = λ setup budget a next of sees.
-    let is : None ≡ kept a.leaves (page_of c.args.va) = sym c.in-None.is 
+    let is : None ≡ kept a.leaves (page_of c.args.va) = sym c.in-None.is
     ∙ held c.args.hart.now c.args.found.now a c.page_of.result c.args.va c.look.result sees (c.look.ensures sees.before sees.latest) c.page_of.ensures in
     let root = c.satp.ensures ∙ ap (λ stores. slice_index stores satp) sees.shows.csrs in
     translates_looks setup.ram a c.args.kind c.args.va next None

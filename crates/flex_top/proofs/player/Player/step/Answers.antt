@@ -15,7 +15,7 @@ use Rattle.hart_story.specs.Progress.{IsIn, IsSoundProgress, begun}
 use Rattle.hart_story.specs.Need.{need_of}
 use Rattle.hart_story.specs.declared.hart.Hart.{Hart}
 use Rattle.hart_story.specs.declared.progress.Need.TheVariants as need
-use Rattle.hart_story.proofs.Busy.{done_over, ends_not_done}
+use Rattle.hart_story.proofs.Asking.{done_over, ends_not_done}
 use Rattle.hart_story.proofs.Needing.{needs_ask, needs_finish, needs_later}
 use Rattle.flex_top.specs.Memory.{Serves, ram_after, devices_after}
 use Rattle.flex_top.specs.Play.{IsAt, progress_at, layout_of}

@@ -1,0 +1,250 @@
+-- What a hart asks, and where the replies have led it.
+use Rattle.std.proofs.Common.{◌≡◌, ℕ, ◌<◌, Bool, true, false, ◌||◌, ◌&&◌, ◌==◌, if◌then◌else◌, [], ◌∷◌, ◌++◌, Option, None, Some, refl, ap, sym, subst, ◌∙◌}
+use Rattle.flex_base.specs.Forms.{HasForm}
+use Rattle.flex_base.specs.DevicesSoFar.{is_retire}
+use Rattle.flex_base.specs.Place.{in_ram}
+use Rattle.flex_base.specs.Setup.{Setup}
+use Rattle.flex_base.specs.State.{State}
+use Rattle.flex_base.specs.StoryTree.{Want, Asks, Ends, IsOver, Story, Says, want, after_one}
+use Rattle.flex_base.specs.Story.{story, after_pulse, begins, fetches_at, is_tick}
+use Rattle.flex_base.specs.Unsplit.{Instruction}
+use Rattle.flex_base.specs.declared.access.Access.{Access}
+use Rattle.flex_base.specs.declared.access.Access.TheVariants as acc
+use Rattle.flex_base.specs.declared.access.Reply.{Reply}
+use Rattle.flex_base.specs.declared.event.EndPart.{EndPart}
+use Rattle.flex_base.specs.declared.settings.Layout.{Layout}
+use Rattle.flex_base.specs.declared.translation.Kind.{Kind}
+use Rattle.flex_base.specs.declared.translation.Kind.TheVariants as kind
+use Rattle.flex_base.proofs.Stories.{goes_push, retires}
+use Rattle.sv39.specs.IsAfter.{ahead, entries_left}
+use Rattle.sv39.specs.declared.walk.Walk.{Walk}
+use Rattle.hart_story.specs.Memory.{access_by, access_of, kind_of, reaching}
+use Rattle.hart_story.specs.Outcome.{outcome_of, is_end}
+use Rattle.hart_story.specs.Progress.{node_at, node, Reached, want_in, is_done}
+use Rattle.hart_story.specs.Stage.{stage_of, walking, has_begun, is_over_at, tells_stop, IsReading, IsSoundStage}
+use Rattle.hart_story.specs.declared.hart.Hart.{Hart}
+use Rattle.hart_story.specs.declared.found.Found.{Found}
+use Rattle.hart_story.specs.declared.memory_work.MemoryOp.{MemoryOp}
+use Rattle.hart_story.specs.declared.memory_work.MemoryOp.TheVariants as memory
+use Rattle.hart_story.specs.declared.outcome.Outcome.{Outcome}
+use Rattle.hart_story.specs.declared.outcome.Outcome.TheVariants as outcome
+use Rattle.hart_story.specs.declared.progress.Progress.{Progress}
+use Rattle.hart_story.specs.declared.stage.Stage.{Stage}
+use Rattle.hart_story.specs.declared.stage.Stage.TheVariants as stage
+use Rattle.hart_story.proofs.Committing.{comes_to_end}
+use Rattle.hart_story.proofs.Walking.{needs, some_left, walks_asks}
+
+-- the replies lead on by one
+pub reached_on : (setup : Setup) (i : Instruction) (p q : Progress) (reply : Reply) → Reached setup i p
+    → after_one (node setup i.state p) reply ≡ node setup i.state q → Reached setup (record i { replies = i.replies ++ reply ∷ [] }) q
+reached_on setup i p q reply reached next = goes_push (story setup i.state) i.replies reply ∙ ap (λ s. after_one s reply) reached ∙ next
+
+-- what the node wants is what the hart wants
+pub node_wants : (setup : Setup) (i : Instruction) (p : Progress) (w : Want) → Reached setup i p → want_in setup i ≡ w → want (node setup i.state p) ≡ w
+node_wants setup i p w reached asks = sym (ap want reached) ∙ asks
+
+pub asked_is : (one other : Access) → Asks one ≡ Asks other → other ≡ one
+asked_is one other e = cc
+
+-- the one access that a story asks
+pub asked_only : (s : Story) (access : Access) (next : Reply → Story) (asked : Access) → s ≡ Says access next → want s ≡ Asks asked → asked ≡ access
+asked_only s access next asked is e = asked_is access asked (sym (ap want is) ∙ e)
+
+asks_end : (part : EndPart) (after : State) (access : Access) → Asks access ≡ Ends part after → ⊥
+asks_end part after access e = cc
+
+-- an instruction that is at its end in the beginning neither retires nor makes a pulse
+ending_by : (spent due : Bool) (pulse begun : Story) (part : EndPart) (after : State) (access : Access) (next : Reply → Story) → pulse ≡ Says access next
+    → want (if spent then retires else (if due then pulse else begun)) ≡ Ends part after → (if spent then retires else (if due then pulse else begun)) ≡ begun
+ending_by true due pulse begun part after access next is e = absurd cc
+ending_by false true pulse begun part after access next is e = let asks = ap want is in absurd cc
+ending_by false false pulse begun part after access next is e = refl
+
+pub ending_begins : (setup : Setup) (a : State) (part : EndPart) (after : State) → want (story setup a) ≡ Ends part after → story setup a ≡ begins setup a
+ending_begins setup a part after e =
+    ending_by (a.ends == setup.budget) a.due (Says (acc.Pulse (is_tick a)) (after_pulse setup a)) (begins setup a) part after
+    (acc.Pulse (is_tick a)) (after_pulse setup a) refl e
+
+-- The beginning.
+
+pub begun_is : (here : Stage) → has_begun here ≡ false → here ≡ stage.Begun
+begun_is stage.Begun e = refl
+begun_is (stage.FetchWalk w) e = absurd cc
+begun_is (stage.Fetch address) e = absurd cc
+begun_is (stage.AccessWalk w work) e = absurd cc
+begun_is (stage.Access address work) e = absurd cc
+begun_is (stage.Working made) e = absurd cc
+begun_is stage.Over e = absurd cc
+
+pub node_story : (setup : Setup) (a : State) (p : Progress) → has_begun p.stage ≡ false → node setup a p ≡ story setup a
+node_story setup a p e = ap (node_at setup a p.lines p.found) (begun_is p.stage e)
+
+-- with the lines that it has
+pub begins_with : (setup : Setup) (a : State) (lines : ℕ) → lines ≡ a.lines → begins setup a ≡ begins setup (record a { lines = lines })
+begins_with setup a lines e = ap (λ l. begins setup (record a { lines = l })) (sym e)
+
+-- an instruction that ends where it begins
+pub ends_begun : (setup : Setup) (i : Instruction) (p next : Progress) (lines : ℕ) (part : EndPart) (after : State) → Reached setup i p
+    → has_begun p.stage ≡ false → lines ≡ i.state.lines → begins setup (record i.state { lines = lines }) ≡ node setup i.state next
+    → want_in setup i ≡ Ends part after → node setup i.state p ≡ node setup i.state next
+ends_begun setup i p next lines part after reached begun same leads ends =
+    let here = node_story setup i.state p begun in
+    here ∙ ending_begins setup i.state part after (sym (ap want here) ∙ node_wants setup i p (Ends part after) reached ends)
+    ∙ begins_with setup i.state lines same ∙ leads
+
+-- A walk that reads asks for an entry.
+
+pub record AsksEntry (ram : ℕ) (a : State) (k : Kind) (va : ℕ) (next : State → ℕ → Story) (w : Walk) : Type 0 where
+  pub address : ℕ
+  pub onward : Reply → Story
+  pub says : walking ram a k va next w ≡ Says (acc.Pte address) onward
+
+pub asks_entry : (ram : ℕ) (a : State) (k : Kind) (va : ℕ) (next : State → ℕ → Story) (w : Walk) → IsReading ram w → AsksEntry ram a k va next w
+asks_entry ram a k va next w reading =
+    let found = needs ram w reading in
+    record {
+      address = found.address;
+      onward = _;
+      says = walks_asks ram a k va next (entries_left w) (ahead w) found.address (some_left w found.address found.need) found.need found.lies.in_ram;
+    }
+
+-- The end of an instruction is an outcome.
+
+pub record IsAtOutcome (here : Stage) : Type 0 where
+  pub made : Outcome
+  pub is : here ≡ stage.Working made
+  pub end : is_end made ≡ true
+
+pub working_is : (one other : Outcome) → stage.Working one ≡ stage.Working other → one ≡ other
+working_is one other e = cc
+
+no_end : (ram : ℕ) (a : State) (k : Kind) (va : ℕ) (next : State → ℕ → Story) (w : Walk) (part : EndPart) (after : State)
+    → IsReading ram w → want (walking ram a k va next w) ≡ Ends part after → ⊥
+no_end ram a k va next w part after reading e =
+    let entry = asks_entry ram a k va next w reading in
+    asks_end part after (acc.Pte entry.address) (sym (ap want entry.says) ∙ e)
+
+pub at_outcome : (setup : Setup) (a : State) (layout : Layout) (hart : Hart) (count : ℕ) (here : Stage) (part : EndPart) (after : State)
+    → setup.ram ≡ layout.ram → has_begun here ≡ true → IsSoundStage layout hart count here → want (stage_of setup a here) ≡ Ends part after → IsAtOutcome here
+at_outcome setup a layout hart count stage.Begun part after of begun sound e = absurd cc
+at_outcome setup a layout hart count (stage.FetchWalk w) part after of begun sound e =
+    let In : ℕ → Type 0 = λ ram. IsReading ram w in
+    absurd (no_end setup.ram a kind.Fetch a.pc (fetches_at setup) w part after (subst In (sym of) sound.0) e)
+at_outcome setup a layout hart count (stage.Fetch address) part after of begun sound e = absurd cc
+at_outcome setup a layout hart count (stage.AccessWalk w work) part after of begun sound e =
+    let In : ℕ → Type 0 = λ ram. IsReading ram w in
+    absurd (no_end setup.ram a (kind_of work.op) work.address (reaching work setup) w part after (subst In (sym of) sound.0) e)
+at_outcome setup a layout hart count (stage.Access address work) part after of begun sound e = absurd cc
+at_outcome setup a layout hart count (stage.Working made) part after of begun sound e =
+    record { made = made; is = refl; end = comes_to_end a made part after e }
+at_outcome setup a layout hart count stage.Over part after of begun sound e = absurd cc
+
+-- Whether a hart is then over.
+
+-- its next step leaves a hart over that asks for this, as the access and its reply say
+abbrev pub LeavesOver : Access → Reply → Bool → Type 0
+LeavesOver access reply over = (is_retire access || reply.stop) ≡ over
+
+memory_on : (op : MemoryOp) (address width value : ℕ) (reply : Reply) → HasForm (access_by op address width value) reply
+    → LeavesOver (access_by op address width value) reply false
+memory_on memory.Load address width value reply form = form.stop
+memory_on memory.Store address width value reply form = form.stop
+memory_on memory.LoadReserved address width value reply form = form.stop
+memory_on memory.StoreConditional address width value reply form = form.stop
+memory_on (memory.Modify does) address width value reply form = form.stop
+
+entry_on : (ram : ℕ) (a : State) (k : Kind) (va : ℕ) (next : State → ℕ → Story) (w : Walk) (access : Access) (reply : Reply)
+    → IsReading ram w → want (walking ram a k va next w) ≡ Asks access → HasForm access reply → LeavesOver access reply false
+entry_on ram a k va next w access reply reading e form =
+    let entry = asks_entry ram a k va next w reading in
+    let is = asked_only (walking ram a k va next w) (acc.Pte entry.address) entry.onward access entry.says e in
+    let Form : Access → Type 0 = λ x. HasForm x reply in
+    let Left : Access → Type 0 = λ x. LeavesOver x reply false in
+    let told : HasForm (acc.Pte entry.address) reply = subst Form is form in
+    subst Left (sym is) told.stop
+
+outcome_on : (a : State) (made : Outcome) (access : Access) (reply : Reply) → want (outcome_of a made) ≡ Asks access → HasForm access reply
+    → LeavesOver access reply (tells_stop (stage.Working made) && reply.stop)
+outcome_on a (outcome.AskPending does rd rs1 number) access reply e form =
+    let Left : Access → Type 0 = λ x. LeavesOver x reply reply.stop in
+    subst Left (sym (asked_is (acc.Pulse false) access e)) refl
+outcome_on a (outcome.AskTime does rd rs1 number) access reply e form =
+    let is = asked_is acc.Time access e in
+    let Form : Access → Type 0 = λ x. HasForm x reply in
+    let Left : Access → Type 0 = λ x. LeavesOver x reply false in
+    let told : HasForm acc.Time reply = subst Form is form in
+    subst Left (sym is) told.stop
+outcome_on a (outcome.End end) access reply e form = absurd cc
+outcome_on a (outcome.Trap cause tval) access reply e form = absurd cc
+outcome_on a (outcome.WriteCsr number rd old value) access reply e form = absurd cc
+outcome_on a outcome.Mret access reply e form = absurd cc
+outcome_on a outcome.Sret access reply e form = absurd cc
+outcome_on a outcome.FenceMemory access reply e form = absurd cc
+outcome_on a outcome.Unbuilt access reply e form = absurd cc
+
+pub stage_on : (setup : Setup) (a : State) (layout : Layout) (hart : Hart) (count : ℕ) (here : Stage) (access : Access) (reply : Reply)
+    → setup.ram ≡ layout.ram → has_begun here ≡ true → IsSoundStage layout hart count here → want (stage_of setup a here) ≡ Asks access → HasForm access reply
+    → LeavesOver access reply (tells_stop here && reply.stop)
+stage_on setup a layout hart count stage.Begun access reply of begun sound e form = absurd cc
+stage_on setup a layout hart count (stage.FetchWalk w) access reply of begun sound e form =
+    let In : ℕ → Type 0 = λ ram. IsReading ram w in
+    entry_on setup.ram a kind.Fetch a.pc (fetches_at setup) w access reply (subst In (sym of) sound.0) e form
+stage_on setup a layout hart count (stage.Fetch address) access reply of begun sound e form =
+    let is = asked_is (acc.Fetch address) access e in
+    let Form : Access → Type 0 = λ x. HasForm x reply in
+    let Left : Access → Type 0 = λ x. LeavesOver x reply false in
+    let told : HasForm (acc.Fetch address) reply = subst Form is form in
+    subst Left (sym is) told.stop
+stage_on setup a layout hart count (stage.AccessWalk w work) access reply of begun sound e form =
+    let In : ℕ → Type 0 = λ ram. IsReading ram w in
+    entry_on setup.ram a (kind_of work.op) work.address (reaching work setup) w access reply (subst In (sym of) sound.0) e form
+stage_on setup a layout hart count (stage.Access address work) access reply of begun sound e form =
+    let is = asked_is (access_of work address) access e in
+    let Form : Access → Type 0 = λ x. HasForm x reply in
+    let Left : Access → Type 0 = λ x. LeavesOver x reply false in
+    subst Left (sym is) (memory_on work.op address work.width work.value reply (subst Form is form))
+stage_on setup a layout hart count (stage.Working made) access reply of begun sound e form = outcome_on a made access reply e form
+stage_on setup a layout hart count stage.Over access reply of begun sound e form = absurd cc
+
+-- Ends.
+
+ends_by : (setup : Setup) (a : State) (lines : ℕ) (found : Found) (here : Stage) (part : EndPart) (after : State)
+    → want (node_at setup a lines found here) ≡ Ends part after → is_over_at here ≡ false
+ends_by setup a lines found stage.Begun part after e = refl
+ends_by setup a lines found (stage.FetchWalk w) part after e = refl
+ends_by setup a lines found (stage.Fetch address) part after e = refl
+ends_by setup a lines found (stage.AccessWalk w work) part after e = refl
+ends_by setup a lines found (stage.Access address work) part after e = refl
+ends_by setup a lines found (stage.Working made) part after e = refl
+ends_by setup a lines found stage.Over part after e = absurd cc
+
+-- a hart that is at the end of an instruction isn't over
+pub ends_not_done : (setup : Setup) (i : Instruction) (p : Progress) (part : EndPart) (after : State) → Reached setup i p
+    → want_in setup i ≡ Ends part after → is_done p ≡ false
+ends_not_done setup i p part after reached ends =
+    ends_by setup i.state p.lines p.found p.stage part after (node_wants setup i p (Ends part after) reached ends)
+
+asks_by : (setup : Setup) (a : State) (lines : ℕ) (found : Found) (here : Stage) (access : Access)
+    → want (node_at setup a lines found here) ≡ Asks access → is_over_at here ≡ false
+asks_by setup a lines found stage.Begun access e = refl
+asks_by setup a lines found (stage.FetchWalk w) access e = refl
+asks_by setup a lines found (stage.Fetch address) access e = refl
+asks_by setup a lines found (stage.AccessWalk w work) access e = refl
+asks_by setup a lines found (stage.Access address work) access e = refl
+asks_by setup a lines found (stage.Working made) access e = refl
+asks_by setup a lines found stage.Over access e = absurd cc
+
+-- nor is one that asks
+pub asks_not_done : (setup : Setup) (i : Instruction) (p : Progress) (access : Access) → Reached setup i p
+    → want_in setup i ≡ Asks access → is_done p ≡ false
+asks_not_done setup i p access reached asks =
+    asks_by setup i.state p.lines p.found p.stage access (node_wants setup i p (Asks access) reached asks)
+
+over_by : (setup : Setup) (a : State) (lines : ℕ) (found : Found) (here : Stage) → is_over_at here ≡ true
+    → want (node_at setup a lines found here) ≡ IsOver
+over_by setup a lines found stage.Over e = refl
+over_by setup a lines found other e = absurd cc
+
+-- a hart that has nothing left to do is over
+pub done_over : (setup : Setup) (i : Instruction) (p : Progress) → Reached setup i p → is_done p ≡ true → want_in setup i ≡ IsOver
+done_over setup i p reached done = ap want reached ∙ over_by setup i.state p.lines p.found p.stage done
