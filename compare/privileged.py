@@ -11,7 +11,7 @@ Left out is where the two rightly differ, or where this QEMU (7.2) isn't as the 
   last three is compared;
 - bits that QEMU keeps and this machine doesn't: writes stay within WRITTEN; MPP never gets 2, satp neither a MODE that
   only QEMU has nor an ASID, mtvec and stvec no reserved mode, and their handlers are the only ones;
-- satp with MODE 8, and legal WFI and SFENCE.VMA, which aren't built yet;
+- satp with MODE 8 and legal SFENCE.VMA, which paging.py beside this file has, and legal WFI, which isn't built yet;
 - misaligned loads and stores, which QEMU does; misaligned SC and AMO, and those outside RAM: there QEMU's SC fails, and
   its AMO traps as a load does;
 - a CSRRS or CSRRC with a register that holds 0, of a read-only number: legal to QEMU;
@@ -32,8 +32,8 @@ RAM = 0x80000000
 CODE = 0x10000
 MEMORY, MEMORY_BYTES, RESULTS = integer.MEMORY, integer.MEMORY_BYTES, integer.RESULTS
 BASE, PLACE = integer.BASE, integer.PLACE
-# The handlers' own registers, in S and in M; where a jump to what can't be fetched goes on; the mode that is asked of
-# the handler in M, more by 1; and what the handlers mix.
+# The handlers' own registers, in S and in M; where the handler of the next exception goes on, if not at the instruction
+# after it; the mode that is asked of the handler in M, more by 1; and what the handlers mix.
 IN_S, RESUME, ASKED, IN_M, DIGEST = (24, 25), 27, 28, (29, 30), 31
 FREE = [r for r in range(1, 24) if r not in (BASE, PLACE)]
 OPERANDS = [0, *FREE]
@@ -94,8 +94,8 @@ def handler(registers, numbers, ask, returns):
     a, b = registers
     status, epc, cause, tval, cleared = numbers
     step = [csr(RS, b, 0, epc), addi(b, b, 4), csr(RW, 0, b, epc), returns]
-    resume = [csr(RW, 0, RESUME, epc), returns]
-    exception = [*ask, addi(b, 0, 1), branch_to(0, a, b, 4 + 4 * len(step)), *step, *resume]
+    resume = [csr(RW, 0, RESUME, epc), addi(RESUME, 0, 0), returns]
+    exception = [*ask, branch_to(1, RESUME, 0, 4 + 4 * len(step)), *step, *resume]
     interrupt = [addi(b, 0, 1), r_type(0, a, b, 1, b, 0x33), csr(RC, 0, b, cleared), returns]
     words = [jump(a, 4 * (INTERRUPTS - entry)) for entry in range(INTERRUPTS)] + mixed(a, b)
     for number in (status, epc, tval, cause):
@@ -132,6 +132,15 @@ class Program:
 
     def here(self):
         return RAM + 4 * len(self.words)
+
+    def alias(self, mode):
+        """How much higher this mode sees the program than it stands."""
+        return 0
+
+    def points(self, register, mode, words):
+        """Gives a register the address, in this mode, of the word that comes so many words after these two."""
+        higher = self.alias(mode) - self.alias(self.mode)
+        self.add(u_type(higher >> 12, register, AUIPC), addi(register, register, 8 + 4 * words))
 
     def register(self):
         return self.chance.choice(FREE)
@@ -247,7 +256,8 @@ class Program:
 
     def jump_away(self):
         self.far(4)
-        self.add(u_type(0, RESUME, AUIPC), addi(RESUME, RESUME, 12), i_type(0, PLACE, 0, self.register(), 0x67))
+        self.points(RESUME, self.mode, 1)
+        self.add(i_type(0, PLACE, 0, self.register(), 0x67))
 
     def refused_word(self):
         words = [*ILLEGAL, *[EBREAK, ECALL] * 5]
@@ -266,22 +276,24 @@ class Program:
 
     # Modes
 
-    def returns(self, epc, clears, sets, status, word):
-        """A return to the next instruction, with bits of the status cleared and set before."""
+    def returns(self, mode, epc, clears, sets, status, word):
+        """A return to the next instruction in this mode, with bits of the status cleared and set before."""
         self.add(*constant(SPARE, clears), csr(RC, 0, SPARE, status), *constant(SPARE, sets), csr(RS, 0, SPARE, status))
-        self.add(u_type(0, SPARE, AUIPC), addi(SPARE, SPARE, 16), csr(RW, 0, SPARE, epc), word)
+        self.points(SPARE, mode, 2)
+        self.add(csr(RW, 0, SPARE, epc), word)
 
     def to(self, mode):
         self.traps += 4
         ways = ["trap"] + (["mret"] if self.mode == M else []) + (["sret"] if mode <= S <= self.mode else [])
         way = self.chance.choice(ways)
         if way == "mret":
-            self.returns(MEPC, MIE_BIT | MPP, mode << 11, MSTATUS, MRET)
+            self.returns(mode, MEPC, MIE_BIT | MPP, mode << 11, MSTATUS, MRET)
         elif way == "sret" and self.mode == M:
-            self.returns(SEPC, MIE | SPP, mode << 8, MSTATUS, SRET)
+            self.returns(mode, SEPC, MIE_BIT | SPP, mode << 8, MSTATUS, SRET)
         elif way == "sret":
-            self.returns(SEPC, SIE_BIT | SPP, mode << 8, SSTATUS, SRET)
+            self.returns(mode, SEPC, SIE_BIT | SPP, mode << 8, SSTATUS, SRET)
         else:
+            self.points(RESUME, mode, 2)
             self.add(addi(ASKED, 0, mode + 1), self.chance.choice(escapes(self.mode, self.medeleg)))
         self.mode = mode
 
@@ -293,7 +305,7 @@ class Program:
         self.to(M)
         self.add(csr(RW, 0, 0, MEDELEG), csr(RW, 0, 0, MIDELEG), *constant(SPARE, TSR), csr(RS, 0, SPARE, MSTATUS))
         self.medeleg = 0
-        self.returns(MEPC, MIE_BIT | MPP, S << 11, MSTATUS, MRET)
+        self.returns(S, MEPC, MIE_BIT | MPP, S << 11, MSTATUS, MRET)
         self.mode = S
         self.add(SRET)
         self.to(M)
@@ -316,7 +328,8 @@ class Program:
         else:
             self.add(*integer.some(self.chance, OPERANDS))
 
-    def make(self):
+    def begins(self):
+        """The handlers, and the registers at the start."""
         self.add(jump(0, 4 * (1 + len(IN_MACHINE) + len(IN_SUPERVISOR))), *IN_MACHINE, *IN_SUPERVISOR)
         self.add(*[NOTHING] * len(QUIET))
         self.add(*constant(BASE, RAM + CODE), *[load_double(r, BASE, 8 * r) for r in FREE])
@@ -326,6 +339,9 @@ class Program:
         # All of memory for S and U, by QEMU's memory protection; here these registers are constant.
         self.add(*constant(SPARE, ALL), csr(RW, 0, SPARE, 0x3B0), addi(SPARE, 0, 0x1F), csr(RW, 0, SPARE, 0x3A0))
         self.delegates()
+
+    def make(self):
+        self.begins()
         kinds = [self.uses_csr] * 20 + [self.traps_once] * 15 + [self.moves] * 10 + [self.computes] * 10
         kinds += [self.raises] * 5 + [self.guarded_sret, self.as_other_mode]
         for _ in range(self.chance.randrange(30, 250)):
@@ -386,13 +402,22 @@ def by_qemu(made, data, folder):
     return dict(zip(names[1:], told[1:]))
 
 
-def differences(program, chance, folder):
-    """What differs after a random program, a line each."""
-    made = Program(chance)
-    made.make()
-    data = b"".join(struct.pack("<Q", integer.value(chance)) for _ in range(32)) + chance.randbytes(MEMORY_BYTES)
+def random_data(chance):
+    """The registers at the start, and the memory of ordinary loads and stores."""
+    return b"".join(struct.pack("<Q", integer.value(chance)) for _ in range(32)) + chance.randbytes(MEMORY_BYTES)
+
+
+def compared(program, made, data, folder):
+    """What differs after a program, a line each."""
     ours, theirs = by_flexemu(program, made, data, folder), by_qemu(made, data, folder)
     if ours is None or theirs is None:
         return [f"no end is reached {'here' if ours is None else 'by QEMU'}"]
     pairs = [(name, ours.get(name, 0), b) for name, b in theirs.items()]
     return [f"{name} is {a:016x}, and {b:016x} by QEMU" for name, a, b in pairs if a != b]
+
+
+def differences(program, chance, folder):
+    """What differs after a random program, a line each."""
+    made = Program(chance)
+    made.make()
+    return compared(program, made, random_data(chance), folder)

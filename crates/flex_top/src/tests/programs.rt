@@ -154,6 +154,46 @@ fn makes_each_atomic_operation(rt: HostRuntime) -> Result<(), AllocError> {
     Ok(())
 }
 
+// A table of one entry, by which the GiB of RAM stands for itself: `satp` is written, and `mret` leads into S, where the
+// word at its own address is loaded, no translation is kept any more, and address 0 is loaded from.
+const TRANSLATED: [u32; 19] = [
+    0x00001297, 0x20000337, 0x0cf30313, 0x0062b823, 0x00c2d293, 0x00800393, 0x03c39393, 0x0072e2b3,
+    0x18029073, 0x00001437, 0x00145413, 0x30042073, 0x00000497, 0x01048493, 0x34149073, 0x30200073,
+    0x0004a503, 0x12000073, 0x00002583,
+];
+
+// The fetch's leaf serves the load of the same instruction and the next fetch, up to the fence.
+const BY_ONE_ENTRY: [&str; 3] = [
+    " k end system 000000008000003c 0000000080000040 x0 0000000000000000
+41 0 k pulse 0 0000000000000000 0 0
+42 0 k pte 0000000080001010 00000000200000cf
+43 0 k to p
+44 0 p fetch 0000000080000040 0004a503
+45 0 p read 0000000080000040 4 000000000004a503
+46 0 p end load 0000000080000040 0000000080000044 x10 000000000004a503
+47 0 p fetch 0000000080000044 12000073
+48 0 p to k
+49 0 k end system 0000000080000044 0000000080000048 x0 0000000000000000
+50 0 k pte 0000000080001010 00000000200000cf
+51 0 k to p
+52 0 p fetch 0000000080000048 00002583
+53 0 p to k
+54 0 k pte 0000000080001000 0000000000000000
+55 0 k end trap 0000000080000048 0000000000000000 000000000000000d 0000000000000000
+56 0 k retire
+",
+    "\nhart 0 csr 180 8000000000080001\n",
+    "\nhart 0 csr 342 000000000000000d\n",
+];
+
+#[test]
+fn translates_addresses(rt: HostRuntime) -> Result<(), AllocError> {
+    let line = "solo img out --ram=1 --budget=19";
+    let outer = run_to_end(&rt, rt.alloc(), &TRANSLATED, line)?;
+    assert_parts(&rt, &outer, &BY_ONE_ENTRY);
+    Ok(())
+}
+
 // The pulses come after 64 and 128 ends of 129.
 const PULSES: [&str; 3] = [
     "\n128 0 p to k\n129 0 k pulse 1 0000000000000000 0 0\n130 0 k to p\n",
