@@ -1,13 +1,14 @@
 -- What a hart asks, and where the replies have led it.
 use Rattle.std.proofs.Common.{◌≡◌, ℕ, ◌<◌, Bool, true, false, ◌||◌, ◌&&◌, ◌==◌, if◌then◌else◌, [], ◌∷◌, ◌++◌, Option, None, Some, refl, ap, sym, subst, ◌∙◌}
 use Rattle.flex_base.specs.Forms.{HasForm}
-use Rattle.flex_base.specs.DevicesSoFar.{is_retire}
+use Rattle.flex_base.specs.Parked.{Busy, node_of}
 use Rattle.flex_base.specs.Place.{in_ram}
 use Rattle.flex_base.specs.Setup.{Setup}
 use Rattle.flex_base.specs.State.{State}
-use Rattle.flex_base.specs.StoryTree.{Want, Asks, Ends, Story, Says, want, after_one}
+use Rattle.flex_base.specs.StoryTree.{Want, Asks, Ends, IsOver, IsParked, Story, Says, Closes, StaysOver, Parks, want, after_one}
+use Rattle.flex_base.specs.Reservations.{asked}
 use Rattle.flex_base.specs.Story.{story, after_pulse, begins, fetches_at, is_tick}
-use Rattle.flex_base.specs.Unsplit.{Instruction}
+use Rattle.flex_base.specs.Unsplit.{Instruction, is_idle}
 use Rattle.flex_base.specs.declared.access.Access.{Access}
 use Rattle.flex_base.specs.declared.access.Access.TheVariants as acc
 use Rattle.flex_base.specs.declared.access.Reply.{Reply}
@@ -16,12 +17,14 @@ use Rattle.flex_base.specs.declared.settings.Layout.{Layout}
 use Rattle.flex_base.specs.declared.translation.Kind.{Kind}
 use Rattle.flex_base.specs.declared.translation.Kind.TheVariants as kind
 use Rattle.flex_base.proofs.Stories.{goes_push, retires}
+use Rattle.flex_base.proofs.Standing.{begun_busy}
 use Rattle.sv39.specs.IsAfter.{ahead, entries_left}
 use Rattle.sv39.specs.declared.walk.Walk.{Walk}
-use Rattle.hart_story.specs.Memory.{access_by, access_of, kind_of, reaching}
+use Rattle.hart_story.specs.Found.{state_at}
+use Rattle.hart_story.specs.Memory.{access_by, access_of, device_access_by, device_access_of, kind_of, reaching}
 use Rattle.hart_story.specs.Outcome.{outcome_of, is_end}
-use Rattle.hart_story.specs.Progress.{node_at, node, Reached, want_in, is_done}
-use Rattle.hart_story.specs.Stage.{stage_of, walking, has_begun, is_over_at, tells_stop, IsReading, IsSoundStage}
+use Rattle.hart_story.specs.Progress.{node_at, node, Reached, want_in, is_done, is_parked, IsAsking, leaves_over, IsIn}
+use Rattle.hart_story.specs.Stage.{stage_of, walking, has_begun, is_over_at, is_parked_at, tells_stop, IsReading, IsSoundStage}
 use Rattle.hart_story.specs.declared.hart.Hart.{Hart}
 use Rattle.hart_story.specs.declared.found.Found.{Found}
 use Rattle.hart_story.specs.declared.memory_work.MemoryOp.{MemoryOp}
@@ -43,12 +46,17 @@ reached_on setup i p q reply reached next = goes_push (story setup i.state) i.re
 pub node_wants : (setup : Setup) (i : Instruction) (p : Progress) (w : Want) → Reached setup i p → want_in setup i ≡ w → want (node setup i.state p) ≡ w
 node_wants setup i p w reached asks = sym (ap want reached) ∙ asks
 
-pub asked_is : (one other : Access) → Asks one ≡ Asks other → other ≡ one
+-- and so is what it asks
+pub node_asks : (setup : Setup) (i : Instruction) (p : Progress) (access : Access) → Reached setup i p → IsAsking setup i access
+    → asked (node setup i.state p) ≡ access ∷ []
+node_asks setup i p access reached asks = sym (ap asked reached) ∙ asks
+
+pub asked_is : (one other : Access) → one ∷ [] ≡ other ∷ [] → other ≡ one
 asked_is one other e = cc
 
 -- the one access that a story asks
-pub asked_only : (s : Story) (access : Access) (next : Reply → Story) (asked : Access) → s ≡ Says access next → want s ≡ Asks asked → asked ≡ access
-asked_only s access next asked is e = asked_is access asked (sym (ap want is) ∙ e)
+pub asked_only : (s : Story) (access : Access) (next : Reply → Story) (other : Access) → s ≡ Says access next → asked s ≡ other ∷ [] → other ≡ access
+asked_only s access next other is e = asked_is access other (sym (ap asked is) ∙ e)
 
 asks_end : (part : EndPart) (after : State) (access : Access) → Asks access ≡ Ends part after → ⊥
 asks_end part after access e = cc
@@ -73,6 +81,7 @@ begun_is (stage.FetchWalk w) e = absurd cc
 begun_is (stage.Fetch address) e = absurd cc
 begun_is (stage.AccessWalk w work) e = absurd cc
 begun_is (stage.Access address work) e = absurd cc
+begun_is (stage.Device address work) e = absurd cc
 begun_is (stage.Working made) e = absurd cc
 begun_is stage.Over e = absurd cc
 
@@ -135,6 +144,7 @@ at_outcome setup a layout hart count (stage.AccessWalk w work) part after of beg
     let In : ℕ → Type 0 = λ ram. IsReading ram w in
     absurd (no_end setup.ram a (kind_of work.op) work.address (reaching work setup) w part after (subst In (sym of) sound.0) e)
 at_outcome setup a layout hart count (stage.Access address work) part after of begun sound e = absurd cc
+at_outcome setup a layout hart count (stage.Device address work) part after of begun sound e = absurd cc
 at_outcome setup a layout hart count (stage.Working made) part after of begun sound e =
     record { made = made; is = refl; end = comes_to_end a made part after e }
 at_outcome setup a layout hart count stage.Over part after of begun sound e = absurd cc
@@ -143,7 +153,7 @@ at_outcome setup a layout hart count stage.Over part after of begun sound e = ab
 
 -- its next step leaves a hart over that asks for this, as the access and its reply say
 abbrev pub LeavesOver : Access → Reply → Bool → Type 0
-LeavesOver access reply over = (is_retire access || reply.stop) ≡ over
+LeavesOver access reply over = leaves_over access reply ≡ over
 
 memory_on : (op : MemoryOp) (address width value : ℕ) (reply : Reply) → HasForm (access_by op address width value) reply
     → LeavesOver (access_by op address width value) reply false
@@ -153,8 +163,16 @@ memory_on memory.LoadReserved address width value reply form = form.stop
 memory_on memory.StoreConditional address width value reply form = form.stop
 memory_on (memory.Modify does) address width value reply form = form.stop
 
+device_on : (op : MemoryOp) (address width value : ℕ) (reply : Reply) → HasForm (device_access_by op address width value) reply
+    → LeavesOver (device_access_by op address width value) reply false
+device_on memory.Load address width value reply form = form.stop
+device_on memory.Store address width value reply form = form.stop
+device_on memory.LoadReserved address width value reply form = form.stop
+device_on memory.StoreConditional address width value reply form = form.stop
+device_on (memory.Modify does) address width value reply form = form.stop
+
 entry_on : (ram : ℕ) (a : State) (k : Kind) (va : ℕ) (next : State → ℕ → Story) (w : Walk) (access : Access) (reply : Reply)
-    → IsReading ram w → want (walking ram a k va next w) ≡ Asks access → HasForm access reply → LeavesOver access reply false
+    → IsReading ram w → asked (walking ram a k va next w) ≡ access ∷ [] → HasForm access reply → LeavesOver access reply false
 entry_on ram a k va next w access reply reading e form =
     let entry = asks_entry ram a k va next w reading in
     let is = asked_only (walking ram a k va next w) (acc.Pte entry.address) entry.onward access entry.says e in
@@ -163,7 +181,7 @@ entry_on ram a k va next w access reply reading e form =
     let told : HasForm (acc.Pte entry.address) reply = subst Form is form in
     subst Left (sym is) told.stop
 
-outcome_on : (a : State) (made : Outcome) (access : Access) (reply : Reply) → want (outcome_of a made) ≡ Asks access → HasForm access reply
+outcome_on : (a : State) (made : Outcome) (access : Access) (reply : Reply) → asked (outcome_of a made) ≡ access ∷ [] → HasForm access reply
     → LeavesOver access reply (tells_stop (stage.Working made) && reply.stop)
 outcome_on a (outcome.AskPending does rd rs1 number) access reply e form =
     let Left : Access → Type 0 = λ x. LeavesOver x reply reply.stop in
@@ -180,10 +198,18 @@ outcome_on a (outcome.WriteCsr number rd old value) access reply e form = absurd
 outcome_on a outcome.Mret access reply e form = absurd cc
 outcome_on a outcome.Sret access reply e form = absurd cc
 outcome_on a outcome.FenceMemory access reply e form = absurd cc
-outcome_on a outcome.Unbuilt access reply e form = absurd cc
+outcome_on a outcome.WaitPulse access reply e form =
+    let Left : Access → Type 0 = λ x. LeavesOver x reply reply.stop in
+    subst Left (sym (asked_is (acc.Pulse false) access e)) refl
+outcome_on a (outcome.Wait mie) access reply e form =
+    let Left : Access → Type 0 = λ x. LeavesOver x reply reply.stop in
+    subst Left (sym (asked_is (acc.Wait mie) access e)) refl
+outcome_on a outcome.Parked access reply e form =
+    let Left : Access → Type 0 = λ x. LeavesOver x reply reply.stop in
+    subst Left (sym (asked_is (acc.Pulse false) access e)) refl
 
 pub stage_on : (setup : Setup) (a : State) (layout : Layout) (hart : Hart) (count : ℕ) (here : Stage) (access : Access) (reply : Reply)
-    → setup.ram ≡ layout.ram → has_begun here ≡ true → IsSoundStage layout hart count here → want (stage_of setup a here) ≡ Asks access → HasForm access reply
+    → setup.ram ≡ layout.ram → has_begun here ≡ true → IsSoundStage layout hart count here → asked (stage_of setup a here) ≡ access ∷ [] → HasForm access reply
     → LeavesOver access reply (tells_stop here && reply.stop)
 stage_on setup a layout hart count stage.Begun access reply of begun sound e form = absurd cc
 stage_on setup a layout hart count (stage.FetchWalk w) access reply of begun sound e form =
@@ -203,6 +229,11 @@ stage_on setup a layout hart count (stage.Access address work) access reply of b
     let Form : Access → Type 0 = λ x. HasForm x reply in
     let Left : Access → Type 0 = λ x. LeavesOver x reply false in
     subst Left (sym is) (memory_on work.op address work.width work.value reply (subst Form is form))
+stage_on setup a layout hart count (stage.Device address work) access reply of begun sound e form =
+    let is = asked_is (device_access_of work address) access e in
+    let Form : Access → Type 0 = λ x. HasForm x reply in
+    let Left : Access → Type 0 = λ x. LeavesOver x reply false in
+    subst Left (sym is) (device_on work.op address work.width work.value reply (subst Form is form))
 stage_on setup a layout hart count (stage.Working made) access reply of begun sound e form = outcome_on a made access reply e form
 stage_on setup a layout hart count stage.Over access reply of begun sound e form = absurd cc
 
@@ -215,6 +246,7 @@ ends_by setup a lines found (stage.FetchWalk w) part after e = refl
 ends_by setup a lines found (stage.Fetch address) part after e = refl
 ends_by setup a lines found (stage.AccessWalk w work) part after e = refl
 ends_by setup a lines found (stage.Access address work) part after e = refl
+ends_by setup a lines found (stage.Device address work) part after e = refl
 ends_by setup a lines found (stage.Working made) part after e = refl
 ends_by setup a lines found stage.Over part after e = absurd cc
 
@@ -225,17 +257,83 @@ ends_not_done setup i p part after reached ends =
     ends_by setup i.state p.lines p.found p.stage part after (node_wants setup i p (Ends part after) reached ends)
 
 asks_by : (setup : Setup) (a : State) (lines : ℕ) (found : Found) (here : Stage) (access : Access)
-    → want (node_at setup a lines found here) ≡ Asks access → is_over_at here ≡ false
+    → asked (node_at setup a lines found here) ≡ access ∷ [] → is_over_at here ≡ false
 asks_by setup a lines found stage.Begun access e = refl
 asks_by setup a lines found (stage.FetchWalk w) access e = refl
 asks_by setup a lines found (stage.Fetch address) access e = refl
 asks_by setup a lines found (stage.AccessWalk w work) access e = refl
 asks_by setup a lines found (stage.Access address work) access e = refl
+asks_by setup a lines found (stage.Device address work) access e = refl
 asks_by setup a lines found (stage.Working made) access e = refl
 asks_by setup a lines found stage.Over access e = absurd cc
 
--- nor is one that asks
+-- nor is one that asks, or is parked
 pub asks_not_done : (setup : Setup) (i : Instruction) (p : Progress) (access : Access) → Reached setup i p
-    → want_in setup i ≡ Asks access → is_done p ≡ false
+    → IsAsking setup i access → is_done p ≡ false
 asks_not_done setup i p access reached asks =
-    asks_by setup i.state p.lines p.found p.stage access (node_wants setup i p (Asks access) reached asks)
+    asks_by setup i.state p.lines p.found p.stage access (node_asks setup i p access reached asks)
+
+over_by : (setup : Setup) (a : State) (lines : ℕ) (found : Found) (here : Stage) → is_over_at here ≡ true
+    → want (node_at setup a lines found here) ≡ IsOver
+over_by setup a lines found stage.Over e = refl
+over_by setup a lines found other e = absurd cc
+
+-- a hart that has nothing left to do is over
+pub done_over : (setup : Setup) (i : Instruction) (p : Progress) → Reached setup i p → is_done p ≡ true → want_in setup i ≡ IsOver
+done_over setup i p reached done = ap want reached ∙ over_by setup i.state p.lines p.found p.stage done
+
+parked_by : (setup : Setup) (a : State) (lines : ℕ) (found : Found) (here : Stage) → is_parked_at here ≡ true
+    → want (node_at setup a lines found here) ≡ IsParked
+parked_by setup a lines found (stage.Working outcome.Parked) e = refl
+parked_by setup a lines found other e = absurd cc
+
+-- and one that waits is parked
+pub waits_parked : (setup : Setup) (i : Instruction) (p : Progress) → Reached setup i p → is_parked p ≡ true → want_in setup i ≡ IsParked
+waits_parked setup i p reached waits = ap want reached ∙ parked_by setup i.state p.lines p.found p.stage waits
+
+-- No other hart is without an event of its own.
+
+busy_idle : (s : Story) → node_of s ≡ Busy → is_idle (want s) ≡ false
+busy_idle (Says access next) e = refl
+busy_idle (Closes part after) e = refl
+busy_idle StaysOver e = absurd cc
+busy_idle (Parks wakes) e = absurd cc
+
+outcome_idle : (a : State) (made : Outcome) → is_idle (want (outcome_of a made)) ≡ is_parked_at (stage.Working made)
+outcome_idle a (outcome.End end) = refl
+outcome_idle a (outcome.Trap cause tval) = refl
+outcome_idle a (outcome.AskPending does rd rs1 number) = refl
+outcome_idle a (outcome.AskTime does rd rs1 number) = refl
+outcome_idle a (outcome.WriteCsr number rd old value) = refl
+outcome_idle a outcome.Mret = refl
+outcome_idle a outcome.Sret = refl
+outcome_idle a outcome.FenceMemory = refl
+outcome_idle a outcome.WaitPulse = refl
+outcome_idle a (outcome.Wait mie) = refl
+outcome_idle a outcome.Parked = refl
+
+walk_idle : (ram : ℕ) (a : State) (k : Kind) (va : ℕ) (next : State → ℕ → Story) (w : Walk) → IsReading ram w
+    → is_idle (want (walking ram a k va next w)) ≡ false
+walk_idle ram a k va next w reading = ap (λ s. is_idle (want s)) (asks_entry ram a k va next w reading).says
+
+idle_by : (setup : Setup) (a : State) (layout : Layout) (hart : Hart) (lines : ℕ) (found : Found) (here : Stage) → setup.ram ≡ layout.ram
+    → IsSoundStage layout hart found.count here
+    → is_idle (want (node_at setup a lines found here)) ≡ (is_over_at here || is_parked_at here)
+idle_by setup a layout hart lines found stage.Begun of sound = busy_idle (story setup a) (begun_busy setup a)
+idle_by setup a layout hart lines found (stage.FetchWalk w) of sound =
+    let In : ℕ → Type 0 = λ ram. IsReading ram w in
+    walk_idle setup.ram (state_at a lines found) kind.Fetch a.pc (fetches_at setup) w (subst In (sym of) sound.0)
+idle_by setup a layout hart lines found (stage.Fetch address) of sound = refl
+idle_by setup a layout hart lines found (stage.AccessWalk w work) of sound =
+    let In : ℕ → Type 0 = λ ram. IsReading ram w in
+    walk_idle setup.ram (state_at a lines found) (kind_of work.op) work.address (reaching work setup) w (subst In (sym of) sound.0)
+idle_by setup a layout hart lines found (stage.Access address work) of sound = refl
+idle_by setup a layout hart lines found (stage.Device address work) of sound = refl
+idle_by setup a layout hart lines found (stage.Working made) of sound = outcome_idle (state_at a lines found) made
+idle_by setup a layout hart lines found stage.Over of sound = refl
+
+-- a hart makes no event by itself where it has nothing left to do or waits, and only there
+pub idle_is : (setup : Setup) (i : Instruction) (hart : Hart) (p : Progress) (layout : Layout) (budget : ℕ) → IsIn setup i hart p layout budget
+    → is_idle (want_in setup i) ≡ (is_done p || is_parked p)
+idle_is setup i hart p layout budget at =
+    ap (λ s. is_idle (want s)) at.reached ∙ idle_by setup i.state layout hart p.lines p.found p.stage at.of.ram at.sound.stage

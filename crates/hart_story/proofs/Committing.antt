@@ -5,7 +5,7 @@ use Rattle.flex_base.specs.Csrs.{AreFit}
 use Rattle.flex_base.specs.Word.{wrap, is_multiple}
 use Rattle.flex_base.specs.Translation.{AreLeaves}
 use Rattle.flex_base.specs.State.{State, IsFit, IsReservation}
-use Rattle.flex_base.specs.StoryTree.{Ends, Story, Says, Closes, StaysOver, ComesLater, want}
+use Rattle.flex_base.specs.StoryTree.{Ends, Story, Says, Closes, StaysOver, Parks, want}
 use Rattle.flex_base.specs.Story.{leaves_after}
 use Rattle.flex_base.specs.Zicsr.{turns_satp}
 use Rattle.flex_base.specs.declared.translation.Leaf.{Leaf}
@@ -97,7 +97,9 @@ comes_to_end a (outcome.WriteCsr number rd old value) part after e = refl
 comes_to_end a outcome.Mret part after e = refl
 comes_to_end a outcome.Sret part after e = refl
 comes_to_end a outcome.FenceMemory part after e = refl
-comes_to_end a outcome.Unbuilt part after e = absurd cc
+comes_to_end a outcome.WaitPulse part after e = absurd cc
+comes_to_end a (outcome.Wait mie) part after e = absurd cc
+comes_to_end a outcome.Parked part after e = absurd cc
 
 -- a story that closes so ends so
 pub ends_with : (setup : Setup) (s : Story) (part : EndPart) (hart : Hart) → CommitsTo setup hart part s → EndsWith setup (want s) part hart
@@ -109,7 +111,7 @@ ends_with setup (Closes made after) part hart committed = record {
   fit = committed.2;
 }
 ends_with setup StaysOver part hart committed = absurd committed
-ends_with setup ComesLater part hart committed = absurd committed
+ends_with setup (Parks wakes) part hart committed = absurd committed
 
 -- what is sound of a hart is sound of it whatever translations it keeps
 pub sound_kept : (layout : Layout) (hart : Hart) (kept : Kept) (o : Outcome) → IsSoundOutcome layout hart o
@@ -122,4 +124,6 @@ sound_kept layout hart kept (outcome.WriteCsr number rd old value) sound = sound
 sound_kept layout hart kept outcome.Mret sound = sound
 sound_kept layout hart kept outcome.Sret sound = sound
 sound_kept layout hart kept outcome.FenceMemory sound = sound
-sound_kept layout hart kept outcome.Unbuilt sound = sound
+sound_kept layout hart kept outcome.WaitPulse sound = sound
+sound_kept layout hart kept (outcome.Wait mie) sound = sound
+sound_kept layout hart kept outcome.Parked sound = sound

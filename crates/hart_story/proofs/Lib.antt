@@ -1,3 +1,4 @@
+pub mod Beginning
 pub mod Needing
 pub mod Operands
 pub mod Reserving

@@ -1,9 +1,10 @@
 -- What a hart wants, by what it is told that it needs.
-use Rattle.std.proofs.Common.{◌≡◌, false, refl, ap}
+use Rattle.std.proofs.Common.{◌≡◌, false, [], ◌∷◌, refl, ap}
 use Rattle.flex_base.specs.State.{State}
-use Rattle.flex_base.specs.StoryTree.{Want, Asks, Ends, IsOver, IsLater}
-use Rattle.flex_base.specs.Built.{is_built}
+use Rattle.flex_base.specs.StoryTree.{Want, Asks, Ends, IsOver, IsParked, Story, Says, Closes, StaysOver, Parks, want}
+use Rattle.flex_base.specs.Reservations.{asked}
 use Rattle.flex_base.specs.declared.access.Access.{Access}
+use Rattle.flex_base.specs.declared.access.Access.TheVariants as acc
 use Rattle.flex_base.specs.declared.class.Class.{Class}
 use Rattle.flex_base.specs.declared.event.EndPart.{EndPart}
 use Rattle.hart_story.specs.Need.{need_of}
@@ -13,7 +14,7 @@ pub needs_ask : (access : Access) (class : Class) (w : Want) → need.Ask access
 needs_ask access class (Asks a) e = let same : a ≡ access = cc in ap Asks same
 needs_ask access class (Ends part after) e = absurd cc
 needs_ask access class IsOver e = absurd cc
-needs_ask access class IsLater e = absurd cc
+needs_ask access class IsParked e = absurd cc
 
 -- an end that is needed is wanted
 pub record IsAtEnd (w : Want) : Type 0 where
@@ -25,10 +26,30 @@ pub needs_finish : (class : Class) (w : Want) → need.Finish class ≡ need_of 
 needs_finish class (Asks a) e = absurd cc
 needs_finish class (Ends part after) e = record { part = part; after = after; ends = refl }
 needs_finish class IsOver e = absurd cc
-needs_finish class IsLater e = absurd cc
+needs_finish class IsParked e = absurd cc
 
-pub needs_later : (w : Want) → need.Unbuilt ≡ need_of w → is_built w ≡ false
-needs_later (Asks a) e = absurd cc
-needs_later (Ends part after) e = absurd cc
-needs_later IsOver e = absurd cc
-needs_later IsLater e = refl
+pub needs_over : (w : Want) → need.Over ≡ need_of w → w ≡ IsOver
+needs_over (Asks a) e = absurd cc
+needs_over (Ends part after) e = absurd cc
+needs_over IsOver e = refl
+needs_over IsParked e = absurd cc
+
+pub needs_parked : (w : Want) → need.Parked ≡ need_of w → w ≡ IsParked
+needs_parked (Asks a) e = absurd cc
+needs_parked (Ends part after) e = absurd cc
+needs_parked IsOver e = absurd cc
+needs_parked IsParked e = refl
+
+-- the access that comes next, by what is wanted
+
+pub wants_asked : (s : Story) (access : Access) → want s ≡ Asks access → asked s ≡ access ∷ []
+wants_asked (Says a next) access e = let same : a ≡ access = cc in ap (λ x. x ∷ []) same
+wants_asked (Closes part after) access e = absurd cc
+wants_asked StaysOver access e = absurd cc
+wants_asked (Parks wakes) access e = absurd cc
+
+pub parked_asked : (s : Story) → want s ≡ IsParked → asked s ≡ acc.Pulse false ∷ []
+parked_asked (Says a next) e = absurd cc
+parked_asked (Closes part after) e = absurd cc
+parked_asked StaysOver e = absurd cc
+parked_asked (Parks wakes) e = refl

@@ -1,17 +1,18 @@
 -- A load, a store or an atomic instruction at its physical address.
-use Rattle.std.proofs.Common.{◌≡◌, ℕ, ◌%◌, true, refl, ap, sym, subst, ◌∙◌, arith}
+use Rattle.std.proofs.Common.{◌≡◌, ℕ, ◌%◌, true, Option, refl, ap, sym, subst, ◌∙◌, arith}
 use Rattle.flex_base.specs.Word.{is_multiple}
 use Rattle.flex_base.specs.Setup.{Setup}
 use Rattle.flex_base.specs.State.{State}
 use Rattle.flex_base.specs.Causes.{access_fault}
 use Rattle.flex_base.specs.Forms.{IsWidth, IsPlaced}
-use Rattle.flex_base.specs.Place.{in_ram}
+use Rattle.flex_base.specs.Place.{in_ram, place_of}
 use Rattle.flex_base.specs.StoryTree.{Says}
 use Rattle.flex_base.specs.Translating.{with_leaf}
 use Rattle.flex_base.specs.Ends.{traps}
 use Rattle.flex_base.specs.declared.settings.Layout.{Layout}
+use Rattle.flex_base.specs.declared.settings.Place.TheVariants as place
 use Rattle.flex_base.specs.declared.translation.Leaf.{Leaf}
-use Rattle.hart_story.specs.Memory.{kind_of, reaching_by, reaching, access_by, closing_by, asking, placing_by, HasWidth, IsMemoryWork}
+use Rattle.hart_story.specs.Memory.{kind_of, reaching_by, reaching, access_by, access_of, closing_by, asking, device_access_by, device_access_of, device_closing_by, asking_device, placing_by, HasWidth, IsMemoryWork}
 use Rattle.hart_story.specs.Need.{IsReservedFor}
 use Rattle.hart_story.specs.StandsFor.{Shows}
 use Rattle.hart_story.specs.Stage.{IsSoundAccess}
@@ -24,6 +25,7 @@ use Rattle.hart_story.specs.declared.memory_work.MemoryWork.{MemoryWork}
 reaching_by-placing : (op : MemoryOp) (w : MemoryWork) (setup : Setup) (a : State) (address : ℕ)
     → reaching_by op w setup a address ≡ placing_by op w setup a address
     (Says (access_by op address w.width w.value) (λ reply. closing_by op w a address reply.value))
+    (Says (device_access_by op address w.width w.value) (λ reply. device_closing_by op w a reply.value))
     (traps a (access_fault (kind_of op)) w.address)
 reaching_by-placing memory.Load w setup a address = refl
 reaching_by-placing memory.Store w setup a address = refl
@@ -32,10 +34,10 @@ reaching_by-placing memory.StoreConditional w setup a address = refl
 reaching_by-placing (memory.Modify does) w setup a address = refl
 
 pub reaching-placing : (op : MemoryOp) (w : MemoryWork) (setup : Setup) (a : State) (address : ℕ) → w.op ≡ op
-    → reaching w setup a address ≡ placing_by op w setup a address (asking w a address)
+    → reaching w setup a address ≡ placing_by op w setup a address (asking w a address) (asking_device w a address)
     (traps a (access_fault (kind_of w.op)) w.address)
 reaching-placing op w setup a address is = reaching_by-placing w.op w setup a address
-    ∙ ap (λ (o : MemoryOp). placing_by o w setup a address (asking w a address)
+    ∙ ap (λ (o : MemoryOp). placing_by o w setup a address (asking w a address) (asking_device w a address)
     (traps a (access_fault (kind_of w.op)) w.address)) is
 
 -- its access stands where it may, at aligned bytes of RAM
@@ -49,7 +51,7 @@ access_placed (memory.Modify does) harts ram address width value wide whole insi
 
 pub sound_access : (op : MemoryOp) (layout : Layout) (hart : Hart) (w : MemoryWork) (address : ℕ) → w.op ≡ op
     → IsMemoryWork w → is_multiple address w.width ≡ true → in_ram layout.ram address w.width ≡ true
-    → IsReservedFor hart.regs.reservation (access_by op address w.width w.value) → IsSoundAccess layout hart address w
+    → IsReservedFor hart.regs.reservation (access_by op address w.width w.value) → IsSoundAccess layout hart w (access_of w address)
 sound_access op layout hart w address is of_memory whole inside reserved =
     let Reserved : MemoryOp → Type 0 = λ o. IsReservedFor hart.regs.reservation (access_by o address w.width w.value) in
     record {
@@ -57,6 +59,31 @@ sound_access op layout hart w address is of_memory whole inside reserved =
       placed = access_placed w.op layout.harts layout.ram address w.width w.value of_memory.width whole inside;
       reserved = subst Reserved (sym is) reserved;
     }
+
+-- an access of a device register stands in its place, and within any reservation
+device_placed : (op : MemoryOp) (harts ram address width value : ℕ) → place_of harts ram address width ≡ place.Device
+    → IsPlaced harts ram (device_access_by op address width value)
+device_placed memory.Load harts ram address width value there = there
+device_placed memory.Store harts ram address width value there = there
+device_placed memory.LoadReserved harts ram address width value there = there
+device_placed memory.StoreConditional harts ram address width value there = there
+device_placed (memory.Modify does) harts ram address width value there = there
+
+device_reserved : (op : MemoryOp) (reservation : Option ℕ) (address width value : ℕ)
+    → IsReservedFor reservation (device_access_by op address width value)
+device_reserved memory.Load reservation address width value = tt
+device_reserved memory.Store reservation address width value = tt
+device_reserved memory.LoadReserved reservation address width value = tt
+device_reserved memory.StoreConditional reservation address width value = tt
+device_reserved (memory.Modify does) reservation address width value = tt
+
+pub sound_device : (layout : Layout) (hart : Hart) (w : MemoryWork) (address : ℕ) → IsMemoryWork w
+    → place_of layout.harts layout.ram address w.width ≡ place.Device → IsSoundAccess layout hart w (device_access_of w address)
+sound_device layout hart w address of_memory there = record {
+  of_memory = of_memory;
+  placed = device_placed w.op layout.harts layout.ram address w.width w.value there;
+  reserved = device_reserved w.op hart.regs.reservation address w.width w.value;
+}
 
 -- a width of any of them is one of a load
 pub has_width : (op : MemoryOp) (width : ℕ) → HasWidth op width → IsWidth width

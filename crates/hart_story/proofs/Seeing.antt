@@ -91,6 +91,7 @@ node_begun setup a lines found (stage.FetchWalk walk) e = refl
 node_begun setup a lines found (stage.Fetch address) e = refl
 node_begun setup a lines found (stage.AccessWalk walk work) e = refl
 node_begun setup a lines found (stage.Access address work) e = refl
+node_begun setup a lines found (stage.Device address work) e = refl
 node_begun setup a lines found (stage.Working made) e = refl
 node_begun setup a lines found stage.Over e = refl
 

@@ -7,3 +7,4 @@ pub mod Memory
 pub mod Stage
 pub mod Translated
 pub mod Progress
+pub mod CanBegin

@@ -7,7 +7,7 @@ use Rattle.flex_base.specs.Place.{in_ram, place_of}
 use Rattle.flex_base.specs.FlatMemory.{reservation_set, is_reserved}
 use Rattle.flex_base.specs.Forms.{IsWidth, IsAtomicWidth}
 use Rattle.flex_base.specs.StoryTree.{Story, Says}
-use Rattle.flex_base.specs.Ends.{computes, passes, concludes}
+use Rattle.flex_base.specs.Ends.{computes, passes, computes_device, passes_device, concludes}
 use Rattle.flex_base.specs.Story.{loads_at, stores_at, loads_reserved_at, stores_conditional_at, modifies_at, at_place, extended}
 use Rattle.flex_base.specs.declared.access.Access.{Access}
 use Rattle.flex_base.specs.declared.access.Access.TheVariants as acc
@@ -64,18 +64,38 @@ closing w = closing_by w.op w
 abbrev pub asking : MemoryWork → State → ℕ → Story
 asking w a address = Says (access_of w address) (λ reply. closing w a address reply.value)
 
--- at its physical address, by its access and its exception: a load and a store have any place, an atomic instruction RAM alone
--- (and a store-conditional the hart's reservation)
-abbrev pub placing_by : MemoryOp → MemoryWork → Setup → State → ℕ → Story → Story → Story
-placing_by memory.Load w setup a address access fault =
-    at_place (place_of setup.harts setup.ram address w.width) access fault
-placing_by memory.Store w setup a address access fault =
-    at_place (place_of setup.harts setup.ram address w.width) access fault
-placing_by memory.StoreConditional w setup a address access fault =
+-- the access of a load or a store at a device register
+abbrev pub device_access_by : MemoryOp → ℕ → ℕ → ℕ → Access
+device_access_by memory.Load address width value = acc.DevRead address width
+device_access_by other address width value = acc.DevWrite address width (low (8 * width) value)
+
+abbrev pub device_access_of : MemoryWork → ℕ → Access
+device_access_of w address = device_access_by w.op address w.width w.value
+
+-- what follows the device's reply with this value
+abbrev pub device_closing_by : MemoryOp → MemoryWork → State → ℕ → Story
+device_closing_by memory.Load w a value = computes_device a w.rd (extended w.signed w.width value)
+device_closing_by other w a value = passes_device a
+
+abbrev pub device_closing : MemoryWork → State → ℕ → Story
+device_closing w = device_closing_by w.op w
+
+-- it asks for its access at a device register
+abbrev pub asking_device : MemoryWork → State → ℕ → Story
+asking_device w a address = Says (device_access_of w address) (λ reply. device_closing w a reply.value)
+
+-- at its physical address, by its access, that at a device register and its exception: a load and a store have any place, an
+-- atomic instruction RAM alone (and a store-conditional the hart's reservation)
+abbrev pub placing_by : MemoryOp → MemoryWork → Setup → State → ℕ → Story → Story → Story → Story
+placing_by memory.Load w setup a address access device fault =
+    at_place (place_of setup.harts setup.ram address w.width) access device fault
+placing_by memory.Store w setup a address access device fault =
+    at_place (place_of setup.harts setup.ram address w.width) access device fault
+placing_by memory.StoreConditional w setup a address access device fault =
     if in_ram setup.ram address w.width
     then (if is_reserved a.reservation (reservation_set address) then access else concludes a w.rd 1)
     else fault
-placing_by other w setup a address access fault = if in_ram setup.ram address w.width then access else fault
+placing_by other w setup a address access device fault = if in_ram setup.ram address w.width then access else fault
 
 -- a width that it can have
 abbrev pub HasWidth : MemoryOp → ℕ → Type 0

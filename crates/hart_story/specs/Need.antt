@@ -3,7 +3,7 @@ use Rattle.std.specs.Prelude.{◌≡◌, ℕ, true, Option}
 use Rattle.flex_base.specs.Setup.{Setup}
 use Rattle.flex_base.specs.State.{State}
 use Rattle.flex_base.specs.FlatMemory.{reservation_set, is_reserved}
-use Rattle.flex_base.specs.StoryTree.{Want, Asks, Ends, IsOver, IsLater}
+use Rattle.flex_base.specs.StoryTree.{Want, Asks, Ends, IsOver, IsParked}
 use Rattle.flex_base.specs.Classes.{class_of_access}
 use Rattle.flex_base.specs.Forms.{IsPlaced}
 use Rattle.flex_base.specs.declared.access.Access.{Access}
@@ -11,12 +11,12 @@ use Rattle.flex_base.specs.declared.access.Access.TheVariants as acc
 use Rattle.hart_story.specs.declared.progress.Need.{Need}
 use Rattle.hart_story.specs.declared.progress.Need.TheVariants as need
 
--- what a hart wants, with its class; what comes later isn't built
+-- what a hart wants, with its class
 abbrev pub need_of : Want → Need
 need_of (Asks access) = need.Ask access (class_of_access access)
 need_of (Ends part after) = need.Finish part.class
 need_of IsOver = need.Over
-need_of IsLater = need.Unbuilt
+need_of IsParked = need.Parked
 
 -- an access that is asked stands where its kind may stand
 abbrev pub AsksPlaced : Setup → Need → Type 0

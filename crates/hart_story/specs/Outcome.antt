@@ -6,9 +6,10 @@ use Rattle.flex_base.specs.Setup.{Setup}
 use Rattle.flex_base.specs.State.{State, IsReservation}
 use Rattle.flex_base.specs.Csrs.{IsCause}
 use Rattle.flex_base.specs.Traps.{mret, sret}
-use Rattle.flex_base.specs.StoryTree.{Story, ComesLater}
-use Rattle.flex_base.specs.Ends.{ends, traps, returns}
-use Rattle.flex_base.specs.Story.{asks_pending, asks_time, closes_csr, fences_memory}
+use Rattle.flex_base.specs.StoryTree.{Story, Says, Parks}
+use Rattle.flex_base.specs.Ends.{finishes, leaves_at, told_of, traps, returns}
+use Rattle.flex_base.specs.Story.{asks_pending, asks_time, closes_csr, fences_memory, after_wait, after_wait_pulse, ends_wait}
+use Rattle.flex_base.specs.declared.access.Access.TheVariants as acc
 use Rattle.flex_base.specs.declared.settings.Layout.{Layout}
 use Rattle.hart_story.specs.Operands.{IsRegister}
 use Rattle.hart_story.specs.StandsFor.{Shows}
@@ -26,7 +27,8 @@ pub record IsOf (setup : Setup) (layout : Layout) (budget : ℕ) : Type 0 where
 
 -- the end of an instruction in the story
 abbrev pub end_of : State → End → Story
-end_of a end = ends (record a { reservation = end.reservation }) end.class end.next end.rd end.value
+end_of a end = finishes a end.class (leaves_at (record a { reservation = end.reservation }) end.next end.rd end.value)
+    end.rd (told_of end.rd end.value) end.due
 
 -- what an instruction comes to
 abbrev pub outcome_of : State → Outcome → Story
@@ -38,7 +40,9 @@ outcome_of a (outcome.WriteCsr number rd old value) = closes_csr a number rd old
 outcome_of a outcome.Mret = returns a (mret a.csrs)
 outcome_of a outcome.Sret = returns a (sret a.csrs)
 outcome_of a outcome.FenceMemory = fences_memory a
-outcome_of a outcome.Unbuilt = ComesLater
+outcome_of a outcome.WaitPulse = Says (acc.Pulse false) (after_wait_pulse a)
+outcome_of a (outcome.Wait mie) = Says (acc.Wait mie) (after_wait a)
+outcome_of a outcome.Parked = Parks (ends_wait a)
 
 -- in each state that the hart shows this story is what the instruction comes to
 abbrev pub ComesAs : Hart → (State → Story) → Outcome → Type 0

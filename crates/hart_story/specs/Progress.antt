@@ -1,19 +1,21 @@
 -- How far a hart in the code has come in the story of its instruction.
-use Rattle.std.specs.Prelude.{◌≡◌, ℕ, ◌<◌, Bool, Option, fold}
+use Rattle.std.specs.Prelude.{◌≡◌, ℕ, ◌<◌, Bool, true, Option, [], ◌∷◌, fold}
 use Rattle.flex_base.specs.Setup.{Setup}
 use Rattle.flex_base.specs.State.{State, IsFit}
-use Rattle.flex_base.specs.StoryTree.{Want, Asks, Ends, Story, Closes, goes}
+use Rattle.flex_base.specs.StoryTree.{Want, Ends, Story, Closes, goes}
 use Rattle.flex_base.specs.Story.{story, ask}
 use Rattle.flex_base.specs.Translation.{AreLeaves}
-use Rattle.flex_base.specs.Reservations.{reserving, accesses_in}
+use Rattle.flex_base.specs.Reservations.{asked, reserving, accesses_in}
 use Rattle.flex_base.specs.Unsplit.{Instruction}
 use Rattle.flex_base.specs.declared.access.Access.{Access}
+use Rattle.flex_base.specs.declared.access.Access.TheVariants as acc
+use Rattle.flex_base.specs.declared.access.Reply.{Reply}
 use Rattle.flex_base.specs.declared.event.EndPart.{EndPart}
 use Rattle.flex_base.specs.declared.settings.Layout.{Layout}
 use Rattle.hart_story.specs.StandsFor.{StandsFor}
 use Rattle.hart_story.specs.Found.{leaves_of, state_at}
 use Rattle.hart_story.specs.Outcome.{IsOf}
-use Rattle.hart_story.specs.Stage.{stage_of, IsSoundStage, left_at, is_over_at}
+use Rattle.hart_story.specs.Stage.{stage_of, IsSoundStage, left_at, is_over_at, is_parked_at}
 use Rattle.hart_story.specs.declared.hart.Hart.{Hart}
 use Rattle.hart_story.specs.declared.found.Found.{Found}
 use Rattle.hart_story.specs.declared.progress.Progress.{Progress}
@@ -48,7 +50,11 @@ Reached setup i progress = goes (story setup i.state) i.replies ≡ node setup i
 abbrev pub is_done : Progress → Bool
 is_done progress = is_over_at progress.stage
 
--- how many accesses may still come before the end, at most
+-- the hart waits for an interrupt, until the devices wake it
+abbrev pub is_parked : Progress → Bool
+is_parked progress = is_parked_at progress.stage
+
+-- how many accesses may still come before the end, at most, where a hart that waits is woken by the one that it then makes
 abbrev pub left : Progress → ℕ
 left progress = left_at progress.stage
 
@@ -76,9 +82,14 @@ pub record IsIn (setup : Setup) (i : Instruction) (hart : Hart) (progress : Prog
 abbrev pub want_in : Setup → Instruction → Want
 want_in setup i = ask setup i.state i.replies
 
--- the hart asks for this access
+-- the hart asks for this access; a parked one asks for its pulse
 abbrev pub IsAsking : Setup → Instruction → Access → Type 0
-IsAsking setup i access = want_in setup i ≡ Asks access
+IsAsking setup i access = asked (goes (story setup i.state) i.replies) ≡ access ∷ []
+
+-- the access and its reply leave the hart with nothing left to do: it retires, or is told to stop
+abbrev pub leaves_over : Access → Reply → Bool
+leaves_over acc.Retire reply = true
+leaves_over other reply = reply.stop
 
 -- the instruction is at this end, which leaves this state
 abbrev pub IsEnding : Setup → Instruction → EndPart → State → Type 0

@@ -7,6 +7,7 @@ use Rattle.flex_base.specs.Forms.{IsPlaced, IsAlignedRam}
 use Rattle.flex_base.specs.StoryTree.{Story, Says, StaysOver}
 use Rattle.flex_base.specs.Translating.{walks}
 use Rattle.flex_base.specs.Story.{story, works, fetches_at}
+use Rattle.flex_base.specs.declared.access.Access.{Access}
 use Rattle.flex_base.specs.declared.access.Access.TheVariants as acc
 use Rattle.flex_base.specs.declared.settings.Layout.{Layout}
 use Rattle.flex_base.specs.declared.translation.Kind.{Kind}
@@ -16,7 +17,7 @@ use Rattle.flex_base.specs.declared.translation.WalkStep.TheVariants as step
 use Rattle.sv39.specs.IsAfter.{ahead, entries_left}
 use Rattle.sv39.specs.declared.walk.Walk.{Walk}
 use Rattle.hart_story.specs.Found.{Sees, leaves_of}
-use Rattle.hart_story.specs.Memory.{kind_of, reaching, access_of, asking, IsMemoryWork, IsAlignedWork}
+use Rattle.hart_story.specs.Memory.{kind_of, reaching, access_of, asking, device_access_of, asking_device, IsMemoryWork, IsAlignedWork}
 use Rattle.hart_story.specs.Need.{IsReservedFor}
 use Rattle.hart_story.specs.Outcome.{IsOf, outcome_of, IsSoundOutcome}
 use Rattle.hart_story.specs.declared.found.Found.{Found}
@@ -39,6 +40,7 @@ stage_of setup a (stage.Fetch address) =
 stage_of setup a (stage.AccessWalk walk work) =
     walking setup.ram a (kind_of work.op) work.address (reaching work setup) walk
 stage_of setup a (stage.Access address work) = asking work a address
+stage_of setup a (stage.Device address work) = asking_device work a address
 stage_of setup a (stage.Working made) = outcome_of a made
 stage_of setup a stage.Over = StaysOver
 
@@ -56,11 +58,11 @@ IsRead ram other = ⊥
 abbrev pub IsReading : ℕ → Walk → Type 0
 IsReading ram walk = IsRead ram (ahead walk [])
 
--- an access stands where its kind may stand, a store-conditional within the hart's reservation
-pub record IsSoundAccess (layout : Layout) (hart : Hart) (address : ℕ) (work : MemoryWork) : Type 0 where
+-- the access of this work stands where its kind may stand, a store-conditional within the hart's reservation
+pub record IsSoundAccess (layout : Layout) (hart : Hart) (work : MemoryWork) (access : Access) : Type 0 where
   pub of_memory : IsMemoryWork work
-  pub placed : IsPlaced layout.harts layout.ram (access_of work address)
-  pub reserved : IsReservedFor hart.regs.reservation (access_of work address)
+  pub placed : IsPlaced layout.harts layout.ram access
+  pub reserved : IsReservedFor hart.regs.reservation access
 
 -- a stage is sound, after so many leaves have been found: an instruction has at most two walks
 abbrev pub IsSoundStage : Layout → Hart → ℕ → Stage → Type 0
@@ -69,19 +71,25 @@ IsSoundStage layout hart count (stage.FetchWalk walk) = IsReading layout.ram wal
 IsSoundStage layout hart count (stage.Fetch address) = IsAlignedRam layout.ram address 4 × (count ≤ 1)
 IsSoundStage layout hart count (stage.AccessWalk walk work) =
     IsReading layout.ram walk × IsAlignedWork work × (count ≤ 1)
-IsSoundStage layout hart count (stage.Access address work) = IsSoundAccess layout hart address work
+IsSoundStage layout hart count (stage.Access address work) = IsSoundAccess layout hart work (access_of work address)
+IsSoundStage layout hart count (stage.Device address work) =
+    IsSoundAccess layout hart work (device_access_of work address)
 IsSoundStage layout hart count (stage.Working made) = IsSoundOutcome layout hart made
 IsSoundStage layout hart count stage.Over = Unit {0}
 
--- how many accesses may still come before the end, at most
+-- how many accesses may still come before the end, at most, where a hart that waits is woken by the one that it then makes
 abbrev pub left_at : Stage → ℕ
 left_at stage.Begun = 12
 left_at (stage.FetchWalk walk) = entries_left walk + 7
 left_at (stage.Fetch address) = 6
 left_at (stage.AccessWalk walk work) = entries_left walk + 2
 left_at (stage.Access address work) = 1
+left_at (stage.Device address work) = 1
 left_at (stage.Working (outcome.AskPending does rd rs1 number)) = 1
 left_at (stage.Working (outcome.AskTime does rd rs1 number)) = 1
+left_at (stage.Working outcome.WaitPulse) = 1
+left_at (stage.Working (outcome.Wait mie)) = 2
+left_at (stage.Working outcome.Parked) = 1
 left_at (stage.Working other) = 0
 left_at stage.Over = 0
 
@@ -95,8 +103,16 @@ abbrev pub is_over_at : Stage → Bool
 is_over_at stage.Over = true
 is_over_at other = false
 
+-- the hart waits until it is woken
+abbrev pub is_parked_at : Stage → Bool
+is_parked_at (stage.Working outcome.Parked) = true
+is_parked_at other = false
+
 -- the reply to what is asked can tell the stop
 abbrev pub tells_stop : Stage → Bool
 tells_stop stage.Begun = true
 tells_stop (stage.Working (outcome.AskPending does rd rs1 number)) = true
+tells_stop (stage.Working outcome.WaitPulse) = true
+tells_stop (stage.Working (outcome.Wait mie)) = true
+tells_stop (stage.Working outcome.Parked) = true
 tells_stop other = false

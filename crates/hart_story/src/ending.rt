@@ -57,7 +57,7 @@ fn commit_end(hart: &mut Hart, lines: u64, end: &End) -> EndPart
     hart.regs.set(end.rd, end.value);
     hart.regs.reservation = end.reservation;
     hart.csrs.count(true, true);
-    close(hart, lines, false);
+    close(hart, lines, end.due);
     EndPart {
         class: end.class,
         pc,

@@ -1,6 +1,6 @@
 // The ends of instructions.
 ghost use Rattle.std.specs.Prelude.{◌<◌};
-ghost use Rattle.flex_base.specs.Ends.{computes, passes};
+ghost use Rattle.flex_base.specs.Ends.{computes, passes, computes_device, passes_device};
 ghost use Rattle.flex_base.specs.declared.settings.Layout.{Layout};
 ghost use Rattle.hart_story.specs.Outcome.{EndsAs, IsSoundEnd, KeepsReservation};
 
@@ -44,5 +44,26 @@ pub(crate) fn end_reserving(
         rd,
         value,
         reservation,
+        due: false,
     }
+}
+
+// The end after an access of a device register, with a value for a register.
+pub(crate) fn end_device(hart: &Hart, rd: u8, value: u64) -> End
+    requires { rd < 32 }
+    ensures works { EndsAs hart.now (λ a. computes_device a rd value) result }
+    ensures sound { (layout : Layout) → IsSoundEnd layout hart.now result }
+{
+    End {
+        due: true,
+        ..end_with(hart, Class::Device, rd, value)
+    }
+}
+
+// Such an end that writes no register.
+pub(crate) fn end_device_write(hart: &Hart) -> End
+    ensures works { EndsAs hart.now (λ a. passes_device a) result }
+    ensures sound { (layout : Layout) → IsSoundEnd layout hart.now result }
+{
+    end_device(hart, 0, 0)
 }

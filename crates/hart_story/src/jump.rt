@@ -29,6 +29,7 @@ pub(crate) fn jump(hart: &Hart, target: u64, rd: u8) -> Outcome
         rd,
         value: hart.regs.pc.wrapping_add(4),
         reservation: hart.regs.reservation,
+        due: false,
     })
 }
 

@@ -10,11 +10,12 @@ ghost use Rattle.flex_base.specs.Word.{is_multiple};
 ghost use Rattle.flex_base.specs.Ends.{traps, concludes};
 ghost use Rattle.flex_base.specs.Story.{reaches, at_place};
 ghost use Rattle.flex_base.specs.declared.settings.Layout.{Layout};
+ghost use Rattle.flex_base.specs.declared.settings.Place.TheVariants as Place;
 ghost use Rattle.hart_story.specs.declared.hart.Hart.{Hart};
 ghost use Rattle.hart_story.specs.declared.memory_work.MemoryWork.{MemoryWork};
 ghost use Rattle.hart_story.specs.declared.outcome.Outcome.TheVariants as Outcome;
 ghost use Rattle.hart_story.specs.declared.stage.Stage.TheVariants as Stage;
-ghost use Rattle.hart_story.specs.Memory.{kind_of, reaching, access_of, asking, IsMemoryWork, IsAlignedWork};
+ghost use Rattle.hart_story.specs.Memory.{kind_of, reaching, access_of, asking, device_access_of, asking_device, IsMemoryWork, IsAlignedWork};
 ghost use Rattle.hart_story.specs.Translated.{translated_of, state_after, entries_in, access_left, IsSoundTranslated};
 ghost use Rattle.hart_story.specs.Outcome.{IsOf, EndsAs, IsSoundEnd};
 ghost use Rattle.hart_story.specs.StandsFor.{Shows};
@@ -97,14 +98,16 @@ fn place(hart: &Hart, layout: &Layout, work: MemoryWork, address: u64) -> Stage
     }
 }
 
-// A load or a store. Devices aren't built yet.
+// A load or a store, of RAM or of a device register.
 fn place_anywhere(layout: &Layout, work: MemoryWork, address: u64) -> Stage
     requires { IsMemoryWork work }
     ensures places { (setup : Setup) (budget : ℕ) (a : State) → IsOf setup layout.now budget
-        → at_place (place_of setup.harts setup.ram address work.width) (asking work a address)
+        → at_place (place_of setup.harts setup.ram address work.width) (asking work a address) (asking_device work a address)
         (traps a (access_fault (kind_of work.op)) work.address) ≡ stage_of setup a result }
     ensures sound { (hart : Hart) (count : ℕ)
         → (in_ram layout.now.ram address work.width ≡ true → IsSoundStage layout.now hart count (Stage.Access address work))
+        → (place_of layout.now.harts layout.now.ram address work.width ≡ Place.Device
+        → IsSoundStage layout.now hart count (Stage.Device address work))
         → IsSoundStage layout.now hart count result }
     ensures nearer { left_at result < 2 }
     ensures begun { has_begun result ≡ true }
@@ -112,7 +115,7 @@ fn place_anywhere(layout: &Layout, work: MemoryWork, address: u64) -> Stage
 {
     match layout.place(address, work.width) {
         Place::Ram => Stage::Access(address, work),
-        Place::Device => Stage::Working(Outcome::Unbuilt),
+        Place::Device => Stage::Device(address, work),
         Place::Nowhere => trap(access_fault(kind_of(work.op)), work.address),
     }
 }
@@ -190,6 +193,21 @@ pub(crate) fn access_of(work: &MemoryWork, address: u64) -> Access
         },
         MemoryOp::Modify(op) => Access::Amo {
             op,
+            address,
+            width,
+            value: cut(width, work.value),
+        },
+    }
+}
+
+// The access of a load or a store at a device register.
+pub(crate) fn device_access_of(work: &MemoryWork, address: u64) -> Access
+    ensures { IsMemoryWork work.now → result ≡ device_access_of work.now address }
+{
+    let width = work.width;
+    match work.op {
+        MemoryOp::Load => Access::DevRead { address, width },
+        _ => Access::DevWrite {
             address,
             width,
             value: cut(width, work.value),

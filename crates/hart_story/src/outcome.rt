@@ -38,8 +38,14 @@ pub enum Outcome {
     Sret,
     /// The end of a fence after which no translation is kept.
     FenceMemory,
-    /// What isn't built yet.
-    Unbuilt,
+    /// The pulse of a WFI that has nothing to wait for.
+    WaitPulse,
+    /// The access by which a WFI waits for an interrupt that is enabled here.
+    Wait {
+        mie: u64,
+    },
+    /// A WFI that waits, until the devices wake its hart and it makes a pulse.
+    Parked,
 }
 
 /// What the end of an instruction does to its hart.
@@ -53,4 +59,6 @@ pub struct End {
     pub value: u64,
     /// The reservation that it leaves.
     pub reservation: Option<u64>,
+    /// Whether it makes a pulse due.
+    pub due: bool,
 }

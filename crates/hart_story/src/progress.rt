@@ -1,4 +1,5 @@
 use crate::found::Found;
+use crate::outcome::Outcome;
 use crate::stage::Stage;
 use flex_base::{Access, Class};
 
@@ -13,7 +14,7 @@ pub struct Progress {
 
 impl Progress {
     ghost use Rattle.std.specs.Prelude.{◌≡◌};
-    ghost use Rattle.hart_story.specs.Progress.{begun, is_done};
+    ghost use Rattle.hart_story.specs.Progress.{begun, is_done, is_parked};
     ghost use Rattle.hart_story.specs.Stage.{has_begun};
 
     /// The beginning of an instruction.
@@ -39,6 +40,13 @@ impl Progress {
     {
         matches!(self.stage, Stage::Over)
     }
+
+    /// Whether the hart waits for an interrupt, until the devices wake it.
+    pub fn is_parked(&self) -> bool
+        ensures { result ≡ is_parked self.now }
+    {
+        matches!(self.stage, Stage::Working(Outcome::Parked))
+    }
 }
 
 /// What a hart does next.
@@ -50,6 +58,7 @@ pub enum Need {
     Finish(Class),
     /// It does nothing any more: it has spent its budget, or was told to stop.
     Over,
-    /// What it does next isn't built yet.
-    Unbuilt,
+    /// It waits for an interrupt, and goes on with the reply to a pulse without tick once the devices
+    /// have woken it.
+    Parked,
 }

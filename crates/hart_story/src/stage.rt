@@ -15,6 +15,8 @@ pub enum Stage {
     AccessWalk(Walk, MemoryWork),
     /// It makes its access at this physical address.
     Access(u64, MemoryWork),
+    /// It makes its access of the device register at this physical address.
+    Device(u64, MemoryWork),
     /// The instruction has come to this.
     Working(Outcome),
     /// The hart has nothing left to do: it has spent its budget, or was told to stop.

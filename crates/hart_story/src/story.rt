@@ -1,13 +1,12 @@
-ghost use Rattle.std.specs.Prelude.{◌≡◌, ◌≢◌, ◌+◌, ◌<◌, ◌≤◌, ◌||◌, ◌&&◌, [], ◌∷◌, ◌++◌, ℕ, false, true};
+ghost use Rattle.std.specs.Prelude.{◌≡◌, ◌≢◌, ◌+◌, ◌<◌, ◌≤◌, ◌&&◌, ◌↔◌, [], ◌∷◌, ◌++◌, ℕ, false, true};
 ghost use Rattle.flex_base.specs.Setup.{Setup};
 ghost use Rattle.flex_base.specs.State.{State, IsFit};
-ghost use Rattle.flex_base.specs.Reservations.{IsOwn};
+ghost use Rattle.flex_base.specs.Reservations.{IsOwn, asked};
 ghost use Rattle.flex_base.specs.Translation.{AreLeaves};
 ghost use Rattle.flex_base.specs.Word.{is_multiple};
-ghost use Rattle.flex_base.specs.StoryTree.{Asks, Ends, Story, after_one, want};
-ghost use Rattle.flex_base.specs.Story.{story, begins, fetches, fetches_at, after_pulse, is_tick};
+ghost use Rattle.flex_base.specs.StoryTree.{Ends, Story, after_one, want};
+ghost use Rattle.flex_base.specs.Story.{story, begins, fetches, fetches_at, after_pulse, after_wait, after_wait_pulse, ends_wait, is_tick};
 ghost use Rattle.flex_base.specs.Forms.{HasForm};
-ghost use Rattle.flex_base.specs.DevicesSoFar.{is_retire};
 ghost use Rattle.flex_base.specs.Unsplit.{Instruction};
 ghost use Rattle.flex_base.specs.declared.access.Access.{Access};
 ghost use Rattle.flex_base.specs.declared.event.EndPart.{EndPart};
@@ -17,26 +16,28 @@ ghost use Rattle.flex_base.specs.declared.translation.Kind.TheVariants as kind;
 ghost use Rattle.sv39.specs.IsAfter.{entries_left};
 ghost use Rattle.hart_story.specs.declared.hart.Hart.{Hart};
 ghost use Rattle.hart_story.specs.declared.outcome.Outcome.TheVariants as Outcome;
+ghost use Rattle.hart_story.specs.declared.progress.Need.TheVariants as Need;
 ghost use Rattle.hart_story.specs.declared.stage.Stage.TheVariants as Stage;
 ghost use Rattle.hart_story.specs.Found.{leaves_of, state_at};
-ghost use Rattle.hart_story.specs.Memory.{asking, IsMemoryWork};
+ghost use Rattle.hart_story.specs.Memory.{access_of, asking, device_access_of, asking_device, IsMemoryWork};
 ghost use Rattle.hart_story.specs.Need.{need_of, AsksPlaced, NeedsReserved};
 ghost use Rattle.hart_story.specs.Outcome.{IsOf, outcome_of, is_end, IsSoundOutcome};
-ghost use Rattle.hart_story.specs.Progress.{node, left, is_done, IsSoundProgress, IsHere, IsIn, want_in, IsAsking, IsEnding, EndsWith, own_in};
+ghost use Rattle.hart_story.specs.Progress.{node, left, is_done, is_parked, IsSoundProgress, IsHere, IsIn, want_in, IsAsking, leaves_over, IsEnding, EndsWith, own_in};
 ghost use Rattle.hart_story.specs.StandsFor.{StandsFor, Shows};
-ghost use Rattle.hart_story.specs.Stage.{stage_of, has_begun, walking, left_at, is_over_at, tells_stop, IsReading, IsSoundAccess, IsSoundStage};
+ghost use Rattle.hart_story.specs.Stage.{stage_of, has_begun, walking, left_at, is_over_at, is_parked_at, tells_stop, IsReading, IsSoundAccess, IsSoundStage};
 ghost use Rattle.hart_story.specs.Translated.{translated_of, state_after, entries_in, fetch_left, IsSoundTranslated};
 
 use crate::causes::INSTRUCTION_ACCESS_FAULT;
 use crate::csr::{csr_value, update_csr};
 use crate::ending::commit;
+use crate::ends::end_without;
 use crate::found::Found;
 use crate::hart::Hart;
-use crate::memory::{access_of, access_stage, class_of, is_in_ram, kind_of};
+use crate::memory::{access_of, access_stage, class_of, device_access_of, is_in_ram, kind_of};
 use crate::memory_work::MemoryWork;
 use crate::outcome::Outcome;
 use crate::progress::{Need, Progress};
-use crate::reply::end_by_reply;
+use crate::reply::{end_by_device, end_by_reply};
 use crate::stage::Stage;
 use crate::translation::{Translated, arrive, translate};
 use crate::work::work;
@@ -52,6 +53,7 @@ pub fn need(hart: &Hart, progress: &Progress, layout: &Layout, budget: u64) -> N
     ensures reserved { (setup : Setup) (i : Instruction) → IsIn setup i hart.now progress.now layout.now budget
         → NeedsReserved i.state result }
     ensures over { result ≡ Need.Over → is_done progress.now ≡ true }
+    ensures parked { (result ≡ Need.Parked) ↔ (is_parked progress.now ≡ true) }
 {
     match progress.stage {
         Stage::Begun => first_need(hart, layout, budget),
@@ -59,22 +61,25 @@ pub fn need(hart: &Hart, progress: &Progress, layout: &Layout, budget: u64) -> N
         Stage::Fetch(address) => Need::Ask(Access::Fetch { address }, Class::Fetch),
         Stage::AccessWalk(walk, _) => walk_need(&walk),
         Stage::Access(address, work) => access_need(&work, address),
+        Stage::Device(address, work) => device_need(&work, address),
         Stage::Working(outcome) => outcome_need(&outcome),
         Stage::Over => Need::Over,
     }
 }
 
-/// Goes on with the reply to the access that `need` asks.
+/// Goes on with the reply to the access that `need` asks. A parked hart goes on with the reply to a
+/// pulse, which one of value 1 leaves parked.
 pub fn give(hart: &Hart, progress: &mut Progress, layout: &Layout, budget: u64, reply: Reply)
     requires { (setup : Setup) × (i : Instruction) × (access : Access)
         × IsIn setup i hart.now progress.old layout.now budget × IsAsking setup i access × HasForm access reply }
     ensures reached { (setup : Setup) (i : Instruction) (access : Access)
         → IsIn setup i hart.now progress.old layout.now budget → IsAsking setup i access
         → IsIn setup (record i { replies = i.replies ++ reply ∷ [] }) hart.now progress.new layout.now budget }
-    ensures nearer { left progress.new < left progress.old }
+    ensures nearer { is_parked progress.old ≡ false → left progress.new < left progress.old }
+    ensures woken { reply.value ≢ 1 → left progress.new < left progress.old }
     ensures over { (setup : Setup) (i : Instruction) (access : Access)
         → IsIn setup i hart.now progress.old layout.now budget → IsAsking setup i access → HasForm access reply
-        → is_done progress.new ≡ (is_retire access || reply.stop) }
+        → is_done progress.new ≡ leaves_over access reply }
 {
     if progress.has_begun() {
         go_on(hart, progress, layout, reply);
@@ -224,6 +229,7 @@ fn first_need(hart: &Hart, layout: &Layout, budget: u64) -> Need
         → IsFit setup.harts setup.ram setup.budget a → AsksPlaced setup result }
     ensures reserved { (a : State) → NeedsReserved a result }
     ensures goes_on { result ≢ Need.Over }
+    ensures unparked { result ≢ Need.Parked }
 {
     if hart.regs.ends == budget {
         Need::Ask(Access::Retire, Class::Pulse)
@@ -243,6 +249,7 @@ fn begin_need(hart: &Hart, layout: &Layout) -> Need
         → IsFit setup.harts setup.ram setup.budget a → AsksPlaced setup result }
     ensures reserved { (a : State) → NeedsReserved a result }
     ensures goes_on { result ≢ Need.Over }
+    ensures unparked { result ≢ Need.Parked }
 {
     match hart.csrs.takeable(hart.regs.lines, hart.regs.mode) {
         Some(_) => Need::Finish(Class::Trap),
@@ -265,6 +272,7 @@ fn fetch_need(hart: &Hart, layout: &Layout) -> Need
         → IsFit setup.harts setup.ram setup.budget a → AsksPlaced setup result }
     ensures reserved { (a : State) → NeedsReserved a result }
     ensures goes_on { result ≢ Need.Over }
+    ensures unparked { result ≢ Need.Parked }
 {
     let came = translate(hart, layout, &Found::none(), Kind::Fetch, hart.regs.pc);
     match came {
@@ -282,6 +290,7 @@ fn fetch_need_at(layout: &Layout, address: u64) -> Need
         → AsksPlaced setup result }
     ensures reserved { (a : State) → NeedsReserved a result }
     ensures goes_on { result ≢ Need.Over }
+    ensures unparked { result ≢ Need.Parked }
 {
     if is_in_ram(layout, address, 4) {
         Need::Ask(Access::Fetch { address }, Class::Fetch)
@@ -297,6 +306,7 @@ fn walk_need(walk: &Walk) -> Need
     ensures placed { (setup : Setup) → IsReading setup.ram walk.now → AsksPlaced setup result }
     ensures reserved { (a : State) → NeedsReserved a result }
     ensures goes_on { result ≢ Need.Over }
+    ensures unparked { result ≢ Need.Parked }
 {
     match walk.next() {
         WalkStep::Need(address) => Need::Ask(Access::Pte { address }, Class::Walk),
@@ -307,12 +317,25 @@ fn walk_need(walk: &Walk) -> Need
 fn access_need(work: &MemoryWork, address: u64) -> Need
     ensures told { (a : State) → IsMemoryWork work.now → result ≡ need_of (want (asking work.now a address)) }
     ensures placed { (setup : Setup) (budget : ℕ) (layout : Layout) (hart : Hart) → IsOf setup layout budget
-        → IsSoundAccess layout hart address work.now → AsksPlaced setup result }
+        → IsSoundAccess layout hart work.now (access_of work.now address) → AsksPlaced setup result }
     ensures reserved { (layout : Layout) (hart : Hart) (a : State) → Shows hart a
-        → IsSoundAccess layout hart address work.now → NeedsReserved a result }
+        → IsSoundAccess layout hart work.now (access_of work.now address) → NeedsReserved a result }
     ensures goes_on { result ≢ Need.Over }
+    ensures unparked { result ≢ Need.Parked }
 {
     Need::Ask(access_of(work, address), class_of(work.op))
+}
+
+fn device_need(work: &MemoryWork, address: u64) -> Need
+    ensures told { (a : State) → IsMemoryWork work.now → result ≡ need_of (want (asking_device work.now a address)) }
+    ensures placed { (setup : Setup) (budget : ℕ) (layout : Layout) (hart : Hart) → IsOf setup layout budget
+        → IsSoundAccess layout hart work.now (device_access_of work.now address) → AsksPlaced setup result }
+    ensures reserved { (layout : Layout) (hart : Hart) (a : State) → Shows hart a
+        → IsSoundAccess layout hart work.now (device_access_of work.now address) → NeedsReserved a result }
+    ensures goes_on { result ≢ Need.Over }
+    ensures unparked { result ≢ Need.Parked }
+{
+    Need::Ask(device_access_of(work, address), Class::Device)
 }
 
 fn outcome_need(outcome: &Outcome) -> Need
@@ -322,6 +345,7 @@ fn outcome_need(outcome: &Outcome) -> Need
     ensures reserved { (layout : Layout) (hart : Hart) (a : State) → Shows hart a
         → IsSoundOutcome layout hart outcome.now → NeedsReserved a result }
     ensures goes_on { result ≢ Need.Over }
+    ensures parked { (result ≡ Need.Parked) ↔ (is_parked_at (Stage.Working outcome.now) ≡ true) }
 {
     match *outcome {
         Outcome::End(end) => Need::Finish(end.class),
@@ -330,21 +354,23 @@ fn outcome_need(outcome: &Outcome) -> Need
         Outcome::AskTime { .. } => Need::Ask(Access::Time, Class::Csr),
         Outcome::WriteCsr { .. } => Need::Finish(Class::Csr),
         Outcome::Mret | Outcome::Sret | Outcome::FenceMemory => Need::Finish(Class::System),
-        Outcome::Unbuilt => Need::Unbuilt,
+        Outcome::WaitPulse => Need::Ask(Access::Pulse { tick: false }, Class::Pulse),
+        Outcome::Wait { mie } => Need::Ask(Access::Wait { mie }, Class::Pulse),
+        Outcome::Parked => Need::Parked,
     }
 }
 
 // Goes on with the reply to the first access of the instruction.
 fn after_first(hart: &Hart, progress: &mut Progress, layout: &Layout, budget: u64, reply: Reply)
     requires { (setup : Setup) × (a : State) × (access : Access) × IsHere setup a hart.now progress.old layout.now budget
-        × (want (story setup a) ≡ Asks access) × HasForm access reply }
+        × (asked (story setup a) ≡ access ∷ []) × HasForm access reply }
     ensures node { (setup : Setup) (a : State) (access : Access) → IsHere setup a hart.now progress.old layout.now budget
-        → want (story setup a) ≡ Asks access → after_one (story setup a) reply ≡ node setup a progress.new }
+        → asked (story setup a) ≡ access ∷ [] → after_one (story setup a) reply ≡ node setup a progress.new }
     ensures sound { IsSoundProgress layout.now hart.now progress.new }
     ensures nearer { left progress.new < 12 }
     ensures over { (setup : Setup) (a : State) (access : Access) → IsHere setup a hart.now progress.old layout.now budget
-        → want (story setup a) ≡ Asks access → HasForm access reply
-        → is_done progress.new ≡ (is_retire access || reply.stop) }
+        → asked (story setup a) ≡ access ∷ [] → HasForm access reply
+        → is_done progress.new ≡ leaves_over access reply }
 {
     if hart.regs.ends == budget {
         progress.stage = Stage::Over;
@@ -379,13 +405,15 @@ fn after_pulse(hart: &Hart, progress: &mut Progress, layout: &Layout, reply: Rep
 fn go_on(hart: &Hart, progress: &mut Progress, layout: &Layout, reply: Reply)
     requires here { (setup : Setup) × (a : State) × (access : Access) × (budget : ℕ)
         × IsHere setup a hart.now progress.old layout.now budget
-        × (want (node setup a progress.old) ≡ Asks access) × HasForm access reply }
+        × (asked (node setup a progress.old) ≡ access ∷ []) × HasForm access reply }
     requires begun { has_begun progress.old.stage ≡ true }
     ensures node { (setup : Setup) (a : State) (access : Access) (budget : ℕ)
-        → IsHere setup a hart.now progress.old layout.now budget → want (node setup a progress.old) ≡ Asks access
+        → IsHere setup a hart.now progress.old layout.now budget → asked (node setup a progress.old) ≡ access ∷ []
         → after_one (node setup a progress.old) reply ≡ node setup a progress.new }
     ensures sound { IsSoundProgress layout.now hart.now progress.new }
-    ensures nearer { left progress.new < left progress.old }
+    ensures nearer { is_parked progress.old ≡ false → left progress.new < left progress.old }
+    ensures woken { reply.value ≢ 1 → left progress.new < left progress.old }
+    ensures no_farther { left progress.new ≤ left progress.old }
     ensures over { is_done progress.new ≡ (tells_stop progress.old.stage && reply.stop) }
 {
     match progress.stage {
@@ -407,7 +435,11 @@ fn go_on(hart: &Hart, progress: &mut Progress, layout: &Layout, reply: Reply)
             let end = end_by_reply(hart, &work, address, reply.value);
             progress.stage = Stage::Working(Outcome::End(end));
         }
-        Stage::Working(outcome) => after_csr_access(hart, progress, outcome, reply),
+        Stage::Device(_, work) => {
+            let end = end_by_device(hart, &work, reply.value);
+            progress.stage = Stage::Working(Outcome::End(end));
+        }
+        Stage::Working(outcome) => after_outcome(hart, progress, outcome, reply),
         Stage::Begun => unreachable!(),
         Stage::Over => unreachable!(),
     }
@@ -434,9 +466,8 @@ fn after_entry(
     arrive(hart, layout, kind, va, walk)
 }
 
-// After the access by which a CSR instruction reads the pending interrupts, whose lines count from
-// then on, or the time.
-fn after_csr_access(hart: &Hart, progress: &mut Progress, outcome: Outcome, reply: Reply)
+// After the access that the instruction has come to.
+fn after_outcome(hart: &Hart, progress: &mut Progress, outcome: Outcome, reply: Reply)
     requires stage { progress.old.stage ≡ Stage.Working outcome }
     requires asks { left_at (Stage.Working outcome) ≢ 0 }
     requires sound { (layout : Layout) × IsSoundOutcome layout hart.now outcome }
@@ -444,7 +475,9 @@ fn after_csr_access(hart: &Hart, progress: &mut Progress, outcome: Outcome, repl
         → after_one (outcome_of (state_at a progress.old.lines progress.old.found) outcome) reply ≡ node setup a progress.new }
     ensures sound { (layout : Layout) (count : ℕ) → IsSoundStage layout hart.now count progress.new.stage }
     ensures found { progress.new.found ≡ progress.old.found }
-    ensures nearer { left progress.new < 1 }
+    ensures nearer { is_parked_at (Stage.Working outcome) ≡ false → left progress.new < left_at (Stage.Working outcome) }
+    ensures woken { reply.value ≢ 1 → left progress.new < left_at (Stage.Working outcome) }
+    ensures no_farther { left progress.new ≤ left_at (Stage.Working outcome) }
     ensures over { is_done progress.new ≡ (tells_stop (Stage.Working outcome) && reply.stop) }
 {
     match outcome {
@@ -471,6 +504,57 @@ fn after_csr_access(hart: &Hart, progress: &mut Progress, outcome: Outcome, repl
             let old = csr_value(hart, number, 0, reply.value);
             progress.stage = Stage::Working(update_csr(hart, op, rd, rs1, number, old));
         }
+        Outcome::WaitPulse => after_wait_pulse(hart, progress, reply),
+        Outcome::Wait { .. } => after_wait(hart, progress, reply),
+        Outcome::Parked => after_wait(hart, progress, reply),
         _ => unreachable!(),
     }
+}
+
+// After the pulse of a WFI that has nothing to wait for.
+fn after_wait_pulse(hart: &Hart, progress: &mut Progress, reply: Reply)
+    ensures node { (setup : Setup) (a : State) → StandsFor hart.now a
+        → after_wait_pulse (state_at a progress.old.lines progress.old.found) reply ≡ node setup a progress.new }
+    ensures sound { (layout : Layout) (count : ℕ) → IsSoundStage layout hart.now count progress.new.stage }
+    ensures found { progress.new.found ≡ progress.old.found }
+    ensures last { left progress.new ≡ 0 }
+    ensures over { is_done progress.new ≡ reply.stop }
+{
+    if reply.stop {
+        progress.stage = Stage::Over;
+    } else {
+        end_wait(hart, progress, reply.lines);
+    }
+}
+
+// After a wait, or a pulse of a parked hart: a reply of value 1 tells that the hart still waits.
+fn after_wait(hart: &Hart, progress: &mut Progress, reply: Reply)
+    ensures node { (setup : Setup) (a : State) → StandsFor hart.now a
+        → after_wait (state_at a progress.old.lines progress.old.found) reply ≡ node setup a progress.new }
+    ensures sound { (layout : Layout) (count : ℕ) → IsSoundStage layout hart.now count progress.new.stage }
+    ensures found { progress.new.found ≡ progress.old.found }
+    ensures woken { reply.value ≢ 1 → left progress.new ≡ 0 }
+    ensures no_farther { left progress.new ≤ 1 }
+    ensures over { is_done progress.new ≡ reply.stop }
+{
+    if reply.stop {
+        progress.stage = Stage::Over;
+    } else if reply.value == 1 {
+        progress.stage = Stage::Working(Outcome::Parked);
+    } else {
+        end_wait(hart, progress, reply.lines);
+    }
+}
+
+// A WFI ends, with these interrupt lines from then on.
+fn end_wait(hart: &Hart, progress: &mut Progress, lines: u64)
+    ensures node { (setup : Setup) (a : State) → StandsFor hart.now a
+        → ends_wait (state_at a progress.old.lines progress.old.found) lines ≡ node setup a progress.new }
+    ensures sound { (layout : Layout) (count : ℕ) → IsSoundStage layout hart.now count progress.new.stage }
+    ensures found { progress.new.found ≡ progress.old.found }
+    ensures last { left progress.new ≡ 0 }
+    ensures goes_on { is_done progress.new ≡ false }
+{
+    progress.lines = lines;
+    progress.stage = Stage::Working(Outcome::End(end_without(hart, Class::System)));
 }

@@ -5,9 +5,8 @@ ghost use Rattle.flex_base.specs.State.{State};
 ghost use Rattle.flex_base.specs.Csrs.{TSR, TW, TVM};
 ghost use Rattle.flex_base.specs.Causes.{illegal_instruction, breakpoint, ecall_from};
 ghost use Rattle.flex_base.specs.Traps.{mret, sret};
-ghost use Rattle.flex_base.specs.StoryTree.{ComesLater};
 ghost use Rattle.flex_base.specs.Ends.{traps, traps_illegal, returns};
-ghost use Rattle.flex_base.specs.Story.{supervises, is_machine, fences_memory};
+ghost use Rattle.flex_base.specs.Story.{supervises, is_machine, fences_memory, has_pending, waits};
 ghost use Rattle.flex_base.specs.declared.settings.Layout.{Layout};
 ghost use Rattle.hart_story.specs.StandsFor.{Shows};
 ghost use Rattle.hart_story.specs.Outcome.{ComesAs, IsSoundOutcome};
@@ -78,17 +77,38 @@ pub(crate) fn sret(hart: &Hart, word: u32) -> Outcome
     }
 }
 
-// Waiting isn't built yet.
 pub(crate) fn wfi(hart: &Hart, word: u32) -> Outcome
     ensures works { ComesAs hart.now
-        (λ a. if supervises TW a.csrs a.mode then ComesLater else traps_illegal a word) result }
+        (λ a. if supervises TW a.csrs a.mode then waits a else traps_illegal a word) result }
     ensures sound { (layout : Layout) → IsSoundOutcome layout hart.now result }
 {
     if supervises(hart, TW) {
-        Outcome::Unbuilt
+        wait(hart)
     } else {
         illegal(word)
     }
+}
+
+// Where an interrupt is pending there is nothing to wait for.
+fn wait(hart: &Hart) -> Outcome
+    ensures works { ComesAs hart.now (λ a. waits a) result }
+    ensures sound { (layout : Layout) → IsSoundOutcome layout hart.now result }
+{
+    if has_pending(hart) {
+        Outcome::WaitPulse
+    } else {
+        Outcome::Wait {
+            mie: hart.csrs.mie(),
+        }
+    }
+}
+
+// Whether an interrupt is pending and enabled by the software bits of mip; what the devices have
+// pending comes with the reply.
+fn has_pending(hart: &Hart) -> bool
+    ensures { (a : State) → Shows hart.now a → result ≡ has_pending a.csrs }
+{
+    hart.csrs.mip() & hart.csrs.mie() != 0
 }
 
 pub(crate) fn sfence_vma(hart: &Hart, word: u32) -> Outcome

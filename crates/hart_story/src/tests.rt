@@ -1,10 +1,11 @@
 ghost use Rattle.std.specs.Prelude.{◌≡◌};
 ghost use Rattle.flex_base.specs.Csrs.{AreFit};
+ghost use Rattle.hart_story.specs.CanBegin.{AreKept, CanBegin};
 
 use super::*;
 use csr_traps::Csrs;
 use flex_base::{Access, AmoOp, Class, EndPart, HartId, Layout, Mode, Reply};
-use hart_state::Regs;
+use hart_state::{Kept, Regs};
 use needs::need_of;
 use playing::play;
 use std::process::Abort;
@@ -12,8 +13,11 @@ use std::process::Abort;
 mod csrs;
 mod interrupts;
 mod needs;
+mod page_faults;
+mod pages;
 mod playing;
 mod returns;
+mod translations;
 mod traps;
 
 const BUDGET: u64 = 100;
@@ -72,7 +76,7 @@ fn layout() -> Layout
 }
 
 fn hart_at(pc: u64, ends: u64, due: bool) -> Hart
-    ensures { AreFit 4 result.csrs }
+    ensures { CanBegin 4 result }
 {
     Hart {
         regs: Regs {
@@ -85,12 +89,19 @@ fn hart_at(pc: u64, ends: u64, due: bool) -> Hart
             due,
         },
         csrs: Csrs::new(HartId(3)),
+        kept: nothing_kept(),
     }
+}
+
+fn nothing_kept() -> Kept
+    ensures { AreKept result }
+{
+    Kept::new()
 }
 
 // A hart in this mode, after these writes of its CSRs.
 fn hart_in(mode: Mode, csrs: &[(u16, u64)]) -> Hart
-    ensures { AreFit 4 result.csrs }
+    ensures { CanBegin 4 result }
 {
     let mut hart = hart_at(0x8000_0040, 0, false);
     hart.regs.mode = mode;
@@ -118,7 +129,7 @@ fn assert_becomes(
     told: (Class, u64, u64),
     after: &Hart,
 )
-    requires { AreFit 4 hart.now.csrs }
+    requires { CanBegin 4 hart.now }
 {
     let (class, first, second) = told;
     let mut made = *hart;
@@ -150,8 +161,8 @@ fn pulse_reply(lines: u64) -> Reply {
 // Makes the hart's next instruction, which is this word, with this reply to its access. It gives
 // what the hart needs after the fetch, and the end.
 fn make(rt: &impl Abort, hart: &mut Hart, word: u32, value: u64) -> (Need, EndPart)
-    requires { AreFit 4 hart.old.csrs }
-    ensures { AreFit 4 hart.new.csrs }
+    requires { CanBegin 4 hart.old }
+    ensures { CanBegin 4 hart.new }
 {
     let needed = need_of(hart, word);
     let fetched = Reply::with_value(word as u64);
@@ -164,12 +175,11 @@ fn make(rt: &impl Abort, hart: &mut Hart, word: u32, value: u64) -> (Need, EndPa
 
 #[test]
 fn makes_instructions(rt: HostRuntime) {
-    let mut hart = Hart::start(HartId(3), 0x8000_0000);
     let mut registers = [0; 32];
     registers[10] = 3;
-    let mut begun = hart_at(0x8000_0000, 0, false);
-    begun.regs.x = registers;
-    assert_eq!(rt; hart, begun);
+    let mut hart = hart_at(0x8000_0000, 0, false);
+    hart.regs.x = registers;
+    assert_eq!(rt; Hart::start(HartId(3), 0x8000_0000), hart);
     let minus_1 = 0xffff_ffff_ffff_ffff;
     let table = [
         // addi x5, x0, 7
@@ -229,7 +239,7 @@ fn makes_instructions(rt: HostRuntime) {
 // `x6` and `x7` are addresses in different lines, `x8` lies in the 8 bytes of `x6`, and `x5` is what
 // is written.
 fn hart_of_atomics() -> Hart
-    ensures { AreFit 4 result.csrs }
+    ensures { CanBegin 4 result }
 {
     let mut hart = hart_at(0x8000_0000, 0, false);
     hart.regs.x[5] = 0x0123_4567_89ab_cdef;
@@ -246,8 +256,8 @@ fn hart_of_atomics() -> Hart
 // Makes each word in turn. A row has the word, the reply to its access, what is needed after the
 // fetch, and what is written to `x10`.
 fn assert_made(rt: &impl Abort, hart: &mut Hart, table: &[(u32, u64, Need, u64)])
-    requires { AreFit 4 hart.old.csrs }
-    ensures { AreFit 4 hart.new.csrs }
+    requires { CanBegin 4 hart.old }
+    ensures { CanBegin 4 hart.new }
 {
     'made: for &(word, value, needed, written) in table {
         let (told, part) = make(rt, hart, word, value);

@@ -1,5 +1,5 @@
 // CSR instructions, by the text of Zicsr and of the privileged manual.
-ghost use Rattle.flex_base.specs.Csrs.{AreFit};
+ghost use Rattle.hart_story.specs.CanBegin.{CanBegin};
 
 use super::needs::need_of;
 use super::playing::play;
@@ -105,7 +105,7 @@ fn refuses_writes_of_read_only(rt: &impl Abort, mode: Mode) {
 }
 
 fn assert_illegal(rt: &impl Abort, hart: &Hart, made: u32)
-    requires { AreFit 4 hart.now.csrs }
+    requires { CanBegin 4 hart.now }
 {
     assert_traps(rt, hart, &[word(made)], 2, made as u64, Mode::M);
 }

@@ -1,5 +1,5 @@
 // Interrupts, by the manual's text.
-ghost use Rattle.flex_base.specs.Csrs.{AreFit};
+ghost use Rattle.hart_story.specs.CanBegin.{CanBegin};
 
 use super::playing::play;
 use super::{
@@ -66,7 +66,7 @@ fn interrupts_are_taken(rt: HostRuntime) {
 }
 
 fn hart_of_interrupts(mode: Mode, pc: u64, mideleg: u64, status: u64, mip: u64) -> Hart
-    ensures { AreFit 4 result.csrs }
+    ensures { CanBegin 4 result }
 {
     let mut hart = hart_in(
         mode,
@@ -85,8 +85,8 @@ fn hart_of_interrupts(mode: Mode, pc: u64, mideleg: u64, status: u64, mip: u64) 
 }
 
 fn enabling(hart: &Hart, mie: u64) -> Hart
-    requires { AreFit 4 hart.now.csrs }
-    ensures { AreFit 4 result.csrs }
+    requires { CanBegin 4 hart.now }
+    ensures { CanBegin 4 result }
 {
     let mut enabled = *hart;
     enabled.csrs = written(enabled.csrs, &[(MIE, mie)]);
@@ -101,7 +101,7 @@ fn needs_trap(hart: &Hart) -> bool {
 // The interrupt is taken to this mode, with this mstatus. Its value is 0, and the instruction that
 // hasn't begun is where the return leads. Nothing else changes but the lines.
 fn assert_interrupted(rt: &impl Abort, hart: &Hart, replies: &[Reply], number: u64, to: (Mode, u64))
-    requires { AreFit 4 hart.now.csrs }
+    requires { CanBegin 4 hart.now }
 {
     let (mode, status) = to;
     let cause = 0x8000_0000_0000_0000 | number;

@@ -1,8 +1,9 @@
 // What a hart needs at each place of an instruction.
-ghost use Rattle.flex_base.specs.Csrs.{AreFit};
+ghost use Rattle.hart_story.specs.CanBegin.{CanBegin};
 
 use super::playing::{answer, begin};
-use super::{BUDGET, hart_at, layout, read, word};
+use super::{BUDGET, hart_at, layout, pulse_reply, read, word};
+use crate::found::Found;
 use crate::work::work;
 use crate::{Hart, Need, Progress, need};
 use flex_base::{Access, Class, Reply};
@@ -56,19 +57,22 @@ fn needs_at_the_beginning(rt: &impl Abort) {
     assert_eq!(rt; told, pulse(true));
 }
 
-fn pulse(tick: bool) -> Need {
+pub(super) fn pulse(tick: bool) -> Need {
     Need::Ask(Access::Pulse { tick }, Class::Pulse)
 }
 
-fn fetch(address: u64) -> Need {
+pub(super) fn fetch(address: u64) -> Need {
     Need::Ask(Access::Fetch { address }, Class::Fetch)
 }
 
 // A pulse comes before the fetch, at the same ends.
 fn needs_after_the_pulse(rt: &impl Abort) {
     for (pc, want) in [(0x8000_0000, fetch(0x8000_0000)), (0x8010_0000, TRAP)] {
+        let layout = layout();
         let hart = hart_at(pc, 64, true);
-        let told = need(&hart, &Progress::Pulsed(0), &layout(), BUDGET);
+        let mut progress = begin(rt, &hart, &layout, BUDGET);
+        answer(rt, &hart, &mut progress, &layout, BUDGET, pulse_reply(0));
+        let told = need(&hart, &progress, &layout, BUDGET);
         assert_eq!(rt; told, want, "at {pc:x}");
     }
 }
@@ -76,7 +80,12 @@ fn needs_after_the_pulse(rt: &impl Abort) {
 // What a hart needs that has fetched this word.
 pub(super) fn need_of(hart: &Hart, word: u32) -> Need {
     let layout = layout();
-    let progress = Progress::Working(0, work(hart, &layout, word));
+    let found = Found::none();
+    let progress = Progress {
+        stage: work(hart, &layout, &found, word),
+        lines: 0,
+        found,
+    };
     need(hart, &progress, &layout, BUDGET)
 }
 
@@ -126,7 +135,7 @@ fn hart_of_accesses() -> Hart {
     hart
 }
 
-fn write(address: u64, width: u8, value: u64) -> Need {
+pub(super) fn write(address: u64, width: u8, value: u64) -> Need {
     Need::Ask(
         Access::Write {
             address,
@@ -175,7 +184,7 @@ fn needs_of_loads_and_stores(rt: &impl Abort) {
 
 // How far the hart has come that has spent its budget and retires.
 fn retire(rt: &impl Abort, hart: &Hart, budget: u64) -> Progress
-    requires { AreFit 4 hart.now.csrs }
+    requires { CanBegin 4 hart.now }
 {
     let layout = layout();
     let mut progress = begin(rt, hart, &layout, budget);

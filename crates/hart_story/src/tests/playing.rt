@@ -1,9 +1,10 @@
 // Playing one instruction of a hart with the replies that are handed in.
 ghost use Rattle.std.specs.Prelude.{◌≡◌, ◌*◌, ◌^◌, ◌<◌, true};
-ghost use Rattle.flex_base.specs.Csrs.{AreFit};
+ghost use Rattle.hart_story.specs.CanBegin.{CanBegin};
 ghost use Rattle.flex_base.specs.Forms.{HasForm, TellsValue, TellsLines};
 ghost use Rattle.flex_base.specs.Setup.{Setup};
 ghost use Rattle.flex_base.specs.State.{State, IsFit, IsReservation};
+ghost use Rattle.flex_base.specs.Translation.{AreLeaves};
 ghost use Rattle.flex_base.specs.Unsplit.{Instruction};
 ghost use Rattle.hart_story.specs.Progress.{IsIn};
 ghost use Rattle.hart_story.specs.StandsFor.{StandsFor};
@@ -15,8 +16,8 @@ use std::process::Abort;
 
 // Makes the hart's next instruction with these replies to its accesses, of which it makes as many.
 pub(super) fn play(rt: &impl Abort, hart: &mut Hart, replies: &[Reply]) -> EndPart
-    requires { AreFit 4 hart.old.csrs }
-    ensures { AreFit 4 hart.new.csrs }
+    requires { CanBegin 4 hart.old }
+    ensures { CanBegin 4 hart.new }
 {
     let layout = layout();
     let mut progress = begin(rt, hart, &layout, BUDGET);
@@ -28,7 +29,7 @@ pub(super) fn play(rt: &impl Abort, hart: &mut Hart, replies: &[Reply]) -> EndPa
 
 // The beginning of an instruction, in 1 MiB of RAM.
 pub(super) fn begin(rt: &impl Abort, hart: &Hart, layout: &Layout, budget: u64) -> Progress
-    requires fit { AreFit 4 hart.now.csrs }
+    requires fit { CanBegin 4 hart.now }
     requires layout { layout.now ≡ record { harts = 4; ram = 1048576 } }
     ensures { (setup : Setup) × (i : Instruction) × IsIn setup i hart.now result layout.now budget }
 {
@@ -57,8 +58,25 @@ pub(super) fn answer(
     }
 }
 
+// Goes on with these values, where the hart needs these accesses in turn.
+pub(super) fn go_through(
+    rt: &impl Abort,
+    hart: &Hart,
+    progress: &mut Progress,
+    layout: &Layout,
+    accesses: &[(Need, u64)],
+)
+    requires { (setup : Setup) × (i : Instruction) × IsIn setup i hart.now progress.old layout.now 100 }
+    ensures { (setup : Setup) × (i : Instruction) × IsIn setup i hart.now progress.new layout.now 100 }
+{
+    'accesses: for &(needed, value) in accesses {
+        assert_eq!(rt; need(hart, progress, layout, BUDGET), needed);
+        answer(rt, hart, progress, layout, BUDGET, Reply::with_value(value));
+    }
+}
+
 // Ends the instruction.
-fn end(
+pub(super) fn end(
     rt: &impl Abort,
     hart: &mut Hart,
     progress: Progress,
@@ -66,7 +84,7 @@ fn end(
     budget: u64,
 ) -> EndPart
     requires { (setup : Setup) × (i : Instruction) × IsIn setup i hart.old progress layout.now budget }
-    ensures { AreFit layout.now.harts hart.new.csrs }
+    ensures { CanBegin layout.now.harts hart.new }
 {
     match need(hart, &progress, layout, budget) {
         Need::Finish(class) => {
@@ -79,8 +97,8 @@ fn end(
 }
 
 fn assert_fit(rt: &impl Abort, hart: &Hart, budget: u64)
-    requires { AreFit 4 hart.now.csrs }
-    ensures { (a : State) → StandsFor hart.now a → IsFit 4 1048576 budget a }
+    requires { CanBegin 4 hart.now }
+    ensures { (a : State) → StandsFor hart.now a → AreLeaves a.leaves → IsFit 4 1048576 budget a }
 {
     assert!(rt; hart.regs.pc % 4 == 0);
     assert!(rt; hart.regs.ends <= budget);
@@ -111,7 +129,7 @@ fn assert_form(rt: &impl Abort, access: &Access, reply: Reply)
             assert_value(rt, 1, reply);
             assert!(rt; reply.value < 2);
         }
-        Access::Time => assert_value(rt, 8, reply),
+        Access::Pte { .. } | Access::Time => assert_value(rt, 8, reply),
         Access::Pulse { .. } => assert_lines(rt, reply),
         _ => rt.abort(),
     }

@@ -1,7 +1,7 @@
 // Returns from traps, and instructions of supervisors, by the manual's text.
 use super::needs::need_of;
 use super::traps::{assert_traps, hart_of_traps};
-use super::{MCYCLE, MEPC, MINSTRET, MSTATUS, SATP, SEPC, assert_becomes, hart_in, word, written};
+use super::{MCYCLE, MEPC, MINSTRET, MSTATUS, SEPC, assert_becomes, hart_in, word, written};
 use crate::Need;
 use flex_base::{Class, Mode};
 use std::process::Abort;
@@ -12,14 +12,14 @@ const SRET: u32 = 0x1020_0073;
 
 const WFI: u32 = 0x1050_0073;
 
-const SFENCE_VMA: u32 = 0x1200_0073;
+pub(super) const SFENCE_VMA: u32 = 0x1200_0073;
 
 // Bits of mstatus.
-const TVM: u64 = 0x10_0000;
+pub(super) const TVM: u64 = 0x10_0000;
 
-const TW: u64 = 0x20_0000;
+pub(super) const TW: u64 = 0x20_0000;
 
-const TSR: u64 = 0x40_0000;
+pub(super) const TSR: u64 = 0x40_0000;
 
 #[test]
 fn returns_lead_back(rt: HostRuntime) {
@@ -96,31 +96,8 @@ fn refuses_by_mode(rt: &impl Abort) {
 }
 
 fn leaves_what_is_not_built(rt: &impl Abort) {
-    let table = [
-        (Mode::S, WFI, TVM | TSR),
-        (Mode::M, WFI, TW),
-        (Mode::S, SFENCE_VMA, TW | TSR),
-        (Mode::M, SFENCE_VMA, TVM),
-    ];
-    for (mode, made, bits) in table {
+    for (mode, bits) in [(Mode::S, TVM | TSR), (Mode::M, TW)] {
         let hart = hart_in(mode, &[(MSTATUS, bits)]);
-        assert_eq!(rt; need_of(&hart, made), Need::Unbuilt, "{made:x}");
+        assert_eq!(rt; need_of(&hart, WFI), Need::Unbuilt);
     }
-    // csrw satp, x5 with the MODE 8 turns translation on, with 0 it is off, and another has no effect.
-    let csrw = 0x1802_9073;
-    for (value, satp) in [
-        (0x0000_0000_0008_0000, 0x8_0000),
-        (0x9000_0000_0008_0000, 1),
-    ] {
-        let mut hart = hart_in(Mode::S, &[(SATP, 1)]);
-        hart.regs.x[5] = value;
-        let mut after = hart;
-        after.regs.pc = 0x8000_0044;
-        after.regs.ends = 1;
-        after.csrs = written(after.csrs, &[(SATP, satp), (MCYCLE, 1), (MINSTRET, 1)]);
-        assert_becomes(rt, &hart, &[word(csrw)], (Class::Csr, 0, 0), &after);
-    }
-    let mut hart = hart_in(Mode::S, &[(SATP, 1)]);
-    hart.regs.x[5] = 0x8000_0000_0008_0000;
-    assert_eq!(rt; need_of(&hart, csrw), Need::Unbuilt);
 }

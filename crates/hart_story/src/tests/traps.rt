@@ -1,5 +1,5 @@
 // Each exception from each mode, delegated and not, by the manual's text.
-ghost use Rattle.flex_base.specs.Csrs.{AreFit};
+ghost use Rattle.hart_story.specs.CanBegin.{CanBegin};
 
 use super::{
     MCAUSE, MCYCLE, MEDELEG, MEPC, MODES, MSTATUS, MTVAL, MTVEC, SCAUSE, SEPC, STVAL, STVEC,
@@ -65,7 +65,7 @@ fn assert_exception(
 
 // Both levels have their interrupts on; their handlers of interrupts are vectored.
 pub(super) fn hart_of_traps(mode: Mode, pc: u64, medeleg: u64) -> Hart
-    ensures { AreFit 4 result.csrs }
+    ensures { CanBegin 4 result }
 {
     let mut hart = hart_in(
         mode,
@@ -96,7 +96,7 @@ pub(super) fn assert_traps(
     tval: u64,
     to: Mode,
 )
-    requires { AreFit 4 hart.now.csrs }
+    requires { CanBegin 4 hart.now }
 {
     let cause = cause as u64;
     let pc = hart.regs.pc;

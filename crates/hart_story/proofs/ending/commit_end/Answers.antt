@@ -26,7 +26,7 @@ returns-clause-commits c = λ layout budget sound setup a of stands fit unspent.
     let aligned = sound.aligned (ap (λ pc. is_multiple pc 4) stands.regs.pc ∙ fit.aligned) in
     let Latest : Kept → Type 0 = λ k. IsLatest k a.leaves in
     let kept : IsLatest c.close.new.hart.kept a.leaves = subst Latest (sym c.close.ensures.kept) stands.kept in
-    let left = ended setup a after c.close.new.hart end.next (set_reg was.regs.x end.rd end.value) was.regs.mode end.reservation was.regs.ends false
-    (c.close.ensures.regs ∙ ap (λ (r : Regs). regs_left r.pc r.x r.mode end.reservation r.ends c.args.lines false) c.set.ensures) refl (ap (λ x. set_reg x end.rd end.value) stands.regs.x) stands.regs.mode refl stands.regs.ends stores unspent aligned
+    let left = ended setup a after c.close.new.hart end.next (set_reg was.regs.x end.rd end.value) was.regs.mode end.reservation was.regs.ends end.due
+    (c.close.ensures.regs ∙ ap (λ (r : Regs). regs_left r.pc r.x r.mode end.reservation r.ends c.args.lines end.due) c.set.ensures) refl (ap (λ x. set_reg x end.rd end.value) stands.regs.x) stands.regs.mode refl stands.regs.ends stores unspent aligned
     (subst Left (sym of.ram) (sound.reserved of.whole (subst Within of.ram own))) fit_csrs kept fit.leaves in
     (part_is end.class was.regs.pc a.pc end.next end.next end.rd _ _ stands.regs.pc refl c.told_of.ensures, left.0, left.1)

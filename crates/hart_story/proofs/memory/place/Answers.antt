@@ -6,7 +6,7 @@ use Rattle.flex_base.specs.StoryTree.{Story}
 use Rattle.flex_base.specs.Ends.{traps}
 use Rattle.hart_story.specs.Memory.{kind_of}
 use Rattle.hart_story.specs.declared.memory_work.MemoryOp.TheVariants as memory
-use Rattle.hart_story.proofs.Placing.{reaching-placing, sound_access}
+use Rattle.hart_story.proofs.Placing.{reaching-placing, sound_access, sound_device}
 use Rattle.hart_story.proofs.memory.place.Goals as goal
 
 pub returns-in-Load-clause-places : goal.returns-in-Load-clause-places
@@ -40,11 +40,13 @@ pub returns-in-Load-clause-sound : goal.returns-in-Load-clause-sound
 returns-in-Load-clause-sound c = λ count whole. c.place_anywhere.ensures.sound c.args.hart.now count
     (λ inside. sound_access memory.Load c.args.layout.now c.args.hart.now c.args.work c.args.address
     c.in-Load.is c.requires whole inside tt)
+    (sound_device c.args.layout.now c.args.hart.now c.args.work c.args.address c.requires)
 
 pub returns-in-Store-clause-sound : goal.returns-in-Store-clause-sound
 returns-in-Store-clause-sound c = λ count whole. c.place_anywhere-in-Store.ensures.sound c.args.hart.now count
     (λ inside. sound_access memory.Store c.args.layout.now c.args.hart.now c.args.work c.args.address
     c.in-Store.is c.requires whole inside tt)
+    (sound_device c.args.layout.now c.args.hart.now c.args.work c.args.address c.requires)
 
 pub returns-in-LoadReserved-clause-sound : goal.returns-in-LoadReserved-clause-sound
 returns-in-LoadReserved-clause-sound c = λ count whole. c.place_in_ram.ensures.sound c.args.hart.now count

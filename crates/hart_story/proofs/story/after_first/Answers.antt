@@ -2,7 +2,8 @@
 use Rattle.std.proofs.Common.{◌≡◌, ◌≢◌, ℕ, true, false, ap, sym, ◌∙◌, arith}
 use Rattle.flex_base.specs.Setup.{Setup}
 use Rattle.flex_base.specs.State.{State}
-use Rattle.flex_base.specs.StoryTree.{after_one, want}
+use Rattle.flex_base.specs.StoryTree.{after_one}
+use Rattle.flex_base.specs.Reservations.{asked}
 use Rattle.flex_base.specs.Story.{story, begins}
 use Rattle.flex_base.specs.Word.{is_multiple}
 use Rattle.flex_base.specs.declared.settings.Layout.{Layout}
@@ -44,7 +45,7 @@ go_on-requires-clause-here c =
       access,
       c.args.budget,
       goes setup a c.args.hart.now c.args.progress.now c.begin.new.progress c.args.layout.now c.args.budget here c.begin.ensures.sound,
-      sym (ap want led) ∙ asks,
+      sym (ap asked led) ∙ asks,
       form,
     )
 
@@ -55,7 +56,7 @@ returns-clause-node c = λ setup a access here asks.
     ap (λ s. after_one s c.args.reply) led
     ∙ c.go_on.ensures.node setup a access c.args.budget
     (goes setup a c.args.hart.now c.args.progress.now c.begin.new.progress c.args.layout.now c.args.budget here c.begin.ensures.sound)
-    (sym (ap want led) ∙ asks)
+    (sym (ap asked led) ∙ asks)
 
 pub returns-clause-over : goal.returns-clause-over
 returns-clause-over c = λ setup a access here asks form.
@@ -66,4 +67,4 @@ returns-clause-over c = λ setup a access here asks form.
     c.go_on.ensures.over
     ∙ sym (stage_on setup (state_at a p.lines p.found) c.args.layout.now c.args.hart.now p.found.count p.stage access c.args.reply
     here.of.ram c.begin.ensures.begun going.sound.stage
-    (sym (ap want (led ∙ node_begun setup a p.lines p.found p.stage c.begin.ensures.begun)) ∙ asks) form)
+    (sym (ap asked (led ∙ node_begun setup a p.lines p.found p.stage c.begin.ensures.begun)) ∙ asks) form)

@@ -1,14 +1,15 @@
 -- Each reply leads on by one in the story.
 use Rattle.std.proofs.Common.{ℕ, ap, sym, ◌∙◌}
 use Rattle.flex_base.specs.Setup.{Setup}
-use Rattle.flex_base.specs.StoryTree.{Asks, after_one, want}
+use Rattle.flex_base.specs.StoryTree.{after_one}
+use Rattle.flex_base.specs.Reservations.{asked}
 use Rattle.flex_base.specs.Unsplit.{Instruction}
 use Rattle.flex_base.specs.declared.settings.Layout.{Layout}
 use Rattle.hart_story.specs.Found.{state_at}
 use Rattle.hart_story.specs.Progress.{IsHere, IsIn}
 use Rattle.hart_story.specs.declared.hart.Hart.{Hart}
 use Rattle.hart_story.specs.declared.progress.Progress.{Progress}
-use Rattle.hart_story.proofs.Asking.{reached_on, node_wants, node_story, stage_on}
+use Rattle.hart_story.proofs.Asking.{reached_on, node_asks, node_story, stage_on}
 use Rattle.hart_story.proofs.Seeing.{node_begun}
 use Rattle.hart_story.proofs.story.give.Goals as goal
 
@@ -25,7 +26,7 @@ returns-then-has_begun-clause-reached c = λ setup i access at asking.
       fit = at.fit;
       reached = reached_on setup i p c.go_on.new.progress c.args.reply at.reached
           (c.go_on.ensures.node setup i.state access c.args.budget (here_of setup i c.args.hart.now p c.args.layout.now c.args.budget at)
-          (node_wants setup i p (Asks access) at.reached asking));
+          (node_asks setup i p access at.reached asking));
       sound = c.go_on.ensures.sound;
     }
 
@@ -36,7 +37,7 @@ returns-then-has_begun-clause-over c = λ setup i access at asking form.
     c.go_on.ensures.over
     ∙ sym (stage_on setup (state_at i.state p.lines p.found) c.args.layout.now c.args.hart.now p.found.count p.stage access c.args.reply
     at.of.ram begun at.sound.stage
-    (sym (ap want (node_begun setup i.state p.lines p.found p.stage begun)) ∙ node_wants setup i p (Asks access) at.reached asking) form)
+    (sym (ap asked (node_begun setup i.state p.lines p.found p.stage begun)) ∙ node_asks setup i p access at.reached asking) form)
 
 pub returns-else-has_begun-clause-reached : goal.returns-else-has_begun-clause-reached
 returns-else-has_begun-clause-reached c = λ setup i access at asking.
@@ -49,7 +50,7 @@ returns-else-has_begun-clause-reached c = λ setup i access at asking.
       reached = reached_on setup i p c.after_first.new.progress c.args.reply at.reached
           (ap (λ s. after_one s c.args.reply) here
           ∙ c.after_first.ensures.node setup i.state access (here_of setup i c.args.hart.now p c.args.layout.now c.args.budget at)
-          (sym (ap want here) ∙ node_wants setup i p (Asks access) at.reached asking));
+          (sym (ap asked here) ∙ node_asks setup i p access at.reached asking));
       sound = c.after_first.ensures.sound;
     }
 
@@ -58,4 +59,4 @@ returns-else-has_begun-clause-over c = λ setup i access at asking form.
     let p = c.args.progress.now in
     let here = node_story setup i.state p (sym c.has_begun.ensures ∙ c.if-has_begun.false) in
     c.after_first.ensures.over setup i.state access (here_of setup i c.args.hart.now p c.args.layout.now c.args.budget at)
-    (sym (ap want here) ∙ node_wants setup i p (Asks access) at.reached asking) form
+    (sym (ap asked here) ∙ node_asks setup i p access at.reached asking) form

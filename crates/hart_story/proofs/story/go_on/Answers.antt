@@ -17,8 +17,8 @@ use Rattle.hart_story.specs.declared.stage.Stage.{Stage}
 use Rattle.hart_story.proofs.Seeing.{shows, sees, node_begun}
 use Rattle.hart_story.proofs.story.go_on.Goals as goal
 
-pub after_csr_access-requires-clause-sound : goal.after_csr_access-requires-clause-sound
-after_csr_access-requires-clause-sound c =
+pub after_outcome-requires-clause-sound : goal.after_outcome-requires-clause-sound
+after_outcome-requires-clause-sound c =
     let old = c.args.progress.now in
     let Sound : Stage → Type 0 = λ s. IsSoundStage c.args.layout.now c.args.hart.now old.found.count s in
     (c.args.layout.now, subst Sound c.in-Working.is c.requires.here.4.sound.stage)
@@ -111,12 +111,12 @@ returns-in-AccessWalk-clause-sound c =
       found = c.note-in-AccessWalk.ensures.sound layout.ram work.address came here.sound.found;
     }
 
--- The access of a CSR instruction.
+-- The access that the instruction has come to.
 
 pub returns-in-Working-clause-sound : goal.returns-in-Working-clause-sound
 returns-in-Working-clause-sound c =
     let Are : Found → Type 0 = λ f. AreLeaves (leaves_of f) in
     record {
-      stage = c.after_csr_access.ensures.sound c.args.layout.now c.after_csr_access.new.progress.found.count;
-      found = subst Are (sym c.after_csr_access.ensures.found) c.requires.here.4.sound.found;
+      stage = c.after_outcome.ensures.sound c.args.layout.now c.after_outcome.new.progress.found.count;
+      found = subst Are (sym c.after_outcome.ensures.found) c.requires.here.4.sound.found;
     }

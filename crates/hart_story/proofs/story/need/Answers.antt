@@ -2,7 +2,7 @@
 use Rattle.std.proofs.Common.{ℕ, ◌≤◌, ◌≡◌, ap, sym, subst, ◌∙◌}
 use Rattle.flex_base.specs.StoryTree.{want}
 use Rattle.hart_story.specs.Found.{state_at}
-use Rattle.hart_story.specs.Memory.{IsAlignedWork}
+use Rattle.hart_story.specs.Memory.{access_of, device_access_of, IsAlignedWork}
 use Rattle.hart_story.specs.Need.{need_of}
 use Rattle.hart_story.specs.Progress.{node_at}
 use Rattle.hart_story.specs.Stage.{IsReading, IsSoundAccess, IsSoundStage}
@@ -39,7 +39,7 @@ pub returns-in-Access-clause-told : goal.returns-in-Access-clause-told
 returns-in-Access-clause-told c = λ setup i at.
     let progress = c.args.progress.now in
     let Sound : Stage → Type 0 = λ s. IsSoundStage c.args.layout.now c.args.hart.now progress.found.count s in
-    let sound : IsSoundAccess c.args.layout.now c.args.hart.now c.in-Access.address c.in-Access.work = subst Sound c.in-Access.is at.sound.stage in
+    let sound : IsSoundAccess c.args.layout.now c.args.hart.now c.in-Access.work (access_of c.in-Access.work c.in-Access.address) = subst Sound c.in-Access.is at.sound.stage in
     c.access_need.ensures.told (state_at i.state progress.lines progress.found) sound.of_memory
     ∙ ap (λ s. need_of (want s)) (sym (at.reached ∙ ap (node_at setup i.state progress.lines progress.found) c.in-Access.is))
 
@@ -53,3 +53,22 @@ returns-in-Access-clause-reserved c = λ setup i at.
     let Sound : Stage → Type 0 = λ s. IsSoundStage c.args.layout.now c.args.hart.now c.args.progress.now.found.count s in
     c.access_need.ensures.reserved c.args.layout.now c.args.hart.now i.state
     (shows c.args.hart.now i.state i.state.lines i.state.leaves at.stands) (subst Sound c.in-Access.is at.sound.stage)
+
+pub returns-in-Device-clause-told : goal.returns-in-Device-clause-told
+returns-in-Device-clause-told c = λ setup i at.
+    let progress = c.args.progress.now in
+    let Sound : Stage → Type 0 = λ s. IsSoundStage c.args.layout.now c.args.hart.now progress.found.count s in
+    let sound : IsSoundAccess c.args.layout.now c.args.hart.now c.in-Device.work (device_access_of c.in-Device.work c.in-Device.address) = subst Sound c.in-Device.is at.sound.stage in
+    c.device_need.ensures.told (state_at i.state progress.lines progress.found) sound.of_memory
+    ∙ ap (λ s. need_of (want s)) (sym (at.reached ∙ ap (node_at setup i.state progress.lines progress.found) c.in-Device.is))
+
+pub returns-in-Device-clause-placed : goal.returns-in-Device-clause-placed
+returns-in-Device-clause-placed c = λ setup i at.
+    let Sound : Stage → Type 0 = λ s. IsSoundStage c.args.layout.now c.args.hart.now c.args.progress.now.found.count s in
+    c.device_need.ensures.placed setup c.args.budget c.args.layout.now c.args.hart.now at.of (subst Sound c.in-Device.is at.sound.stage)
+
+pub returns-in-Device-clause-reserved : goal.returns-in-Device-clause-reserved
+returns-in-Device-clause-reserved c = λ setup i at.
+    let Sound : Stage → Type 0 = λ s. IsSoundStage c.args.layout.now c.args.hart.now c.args.progress.now.found.count s in
+    c.device_need.ensures.reserved c.args.layout.now c.args.hart.now i.state
+    (shows c.args.hart.now i.state i.state.lines i.state.leaves at.stands) (subst Sound c.in-Device.is at.sound.stage)

@@ -1,0 +1,5 @@
+use Rattle.hart_story.specs.CanBegin.{CanBegin}
+use Rattle.hart_story.proofs.tests.ends_without_a_register.Given as goal
+
+abbrev pub invariant-made : goal.invariant-made
+invariant-made g l = CanBegin 4 l.hart
