@@ -39,7 +39,7 @@ impl Player {
     ghost use Rattle.flex_base.specs.Forms.{IsPlaced};
     ghost use Rattle.flex_base.specs.StoryTree.{Asks};
     ghost use Rattle.flex_base.specs.Unsplit.{want_of, next_of, is_idle, has_ended, step, reach_from};
-    ghost use Rattle.flex_base.specs.Rounds.{turn_of, names_played};
+    ghost use Rattle.flex_base.specs.Rounds.{turn_of, most_rounds, names_played};
     ghost use Rattle.tracer.specs.Trace.{tail_of};
     ghost use Rattle.flex_top.specs.Play.{IsAt, IsStarted, AfterStep, IsTurned, IsNearer, Playing, TellsIdle, progress_at, layout_of};
     ghost use Rattle.hart_story.specs.Progress.{left};
@@ -74,14 +74,22 @@ impl Player {
             → OnOk result (IsAt setup (reach setup (names_played setup order.now)) self.new) }
     {
         self.follow(order)?;
-        let most = self.settings.harts as u64 * (10 * self.settings.budget + 1);
-        'rounds: for _ in 0..most {
+        'rounds: for _ in 0..self.most_rounds() {
             if self.has_ended() {
                 return Ok(());
             }
             self.round()?;
         }
         Ok(())
+    }
+
+    // As many rounds as there can be events: 10 for each end that a hart may make, and its retirement.
+    fn most_rounds(&self) -> u64
+        requires { (setup : Setup) × (u : Machine) × IsAt setup u self.now }
+        ensures { (setup : Setup) (u : Machine) → IsAt setup u self.now → result ≡ most_rounds setup }
+    {
+        let harts = u64::from(self.settings.harts);
+        10 * (harts * self.settings.budget) + harts
     }
 
     // Makes these the lines of the trace after the events so far.
@@ -135,10 +143,7 @@ impl Player {
         requires at { (setup : Setup) × (u : Machine) × IsAt setup u self.now }
         ensures { (setup : Setup) (u : Machine) → IsAt setup u self.now → result ≡ is_idle (want_of setup u h) }
     {
-        match need(&self.harts[h], &self.progress[h], &self.layout(), self.settings.budget) {
-            Need::Ask(_, _) | Need::Finish(_) => false,
-            Need::Parked | Need::Over => true,
-        }
+        self.progress[h].is_over() || self.progress[h].is_parked()
     }
 
     // The harts make their next events in this order.

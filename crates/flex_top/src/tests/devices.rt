@@ -218,7 +218,7 @@ fn answers_by_the_call_that_fails(rt: HostRuntime) -> Result<(), AllocError> {
         (2, Status::WriteFault, "", None),
         (3, Status::WriteFault, "Hi", None),
         (4, Status::WriteFault, "Hi", Some(0)),
-        (5, Status::Ended, "Hi", Some(1692)),
+        (5, Status::Ended, "Hi", Some(1643)),
     ] {
         assert_call(&rt, rt.alloc(), call, status, said, written)?;
     }
