@@ -15,7 +15,7 @@ use Rattle.tracer.specs.Trace.{settings_of, tail_of, whole_text}
 use Rattle.tracer.specs.declared.tail_text.TailLine.{TailLine}
 use Rattle.flex_top.specs.Words.{Reading}
 use Rattle.flex_top.specs.Answer.{Sources, file_among, sources_among, image_from, input_from, setup_of, journal_of, answer_of, expected, Outcome, outcome_with, outcome_of_run, outcome_of, outcome}
-use Rattle.flex_top.specs.Does.{IsAnswer, Answers, IsCalm, IsEnded, WritesAll, WritesPart, Leaves, BreaksSaying, BreaksWriting, LeavesPart, LeavesNothing, Does}
+use Rattle.flex_top.specs.Does.{IsAnswer, Answers, IsCalm, IsEnded, WritesAll, WritesPart, Leaves, BreaksSaying, BreaksWriting, LeavesPart, LeavesNothing, Does, TellsFaults}
 use Rattle.flex_top.specs.Play.{IsAt}
 use Rattle.flex_top.specs.Taking.{IsFile, Gives, Refuses, IsRefused, IsRefusal, IsOfRun}
 use Rattle.flex_top.specs.Written.{OnlyLeaves, Becomes, BecomesPart}
@@ -44,7 +44,7 @@ abbrev pub file_held : Option Files → Option (List ℕ) → Option (List ℕ)
 file_held None name = Some []
 file_held (Some files) name = file_among name files
 
-told_file : (held : Option Files) (name : Option (List ℕ)) → IsFile held name (file_held held name)
+pub told_file : (held : Option Files) (name : Option (List ℕ)) → IsFile held name (file_held held name)
 told_file None name = tt
 told_file (Some files) name = refl
 
@@ -247,6 +247,41 @@ does_run r old mid new start input answer Fails image_given input_given took of 
       long_image = λ n is_long. absurd (let At : Status → Type 0 = IsOfRun in subst At is_long of);
       long_input = λ n is_long. absurd (let At : Status → Type 0 = IsOfRun in subst At is_long of);
     }
+
+-- Faults.
+
+no_fault : (before now : ℕ) (Fails : Type 0) → now ≡ before → (Fails → ⊥) → Counts before now Fails
+no_fault before now Fails same unfailed = record {
+  no_fall = omega (arith, same);
+  failed = λ fails. absurd (unfailed fails);
+  calm = λ calm. same;
+}
+
+pub tells_refusal : (old new : Outside) (why : Status) → IsRefusal why → OnlyReads old new (why ≡ status.ReadFault) → TellsFaults old why new
+tells_refusal old new why is took = record {
+  read = took.cause;
+  write = no_fault old.write_faults new.write_faults (why ≡ status.WriteFault) took.write_faults (refusal_unwritten why is);
+}
+
+pub tells_run : (old mid new : Outside) (answer : Status) (Fails : Type 0) → IsOfRun answer → OnlyReads old mid Fails → (Fails → ⊥) → OnlyLeaves mid new (answer ≡ status.WriteFault) → TellsFaults old answer new
+tells_run old mid new answer Fails of took unfailed left =
+    let From : ℕ → Type 0 = λ n. Counts n new.write_faults (answer ≡ status.WriteFault) in
+    record {
+      read = no_fault old.read_faults new.read_faults (answer ≡ status.ReadFault) (left.read_faults ∙ took.cause.calm unfailed) (run_read answer of);
+      write = subst From took.write_faults left.cause;
+    }
+
+pub refusal_used : (why : Status) → IsRefusal why → why ≢ status.Usage
+refusal_used why is same = subst IsRefusal same is
+
+pub run_used : (answer : Status) → IsOfRun answer → answer ≢ status.Usage
+run_used answer of same = subst IsOfRun same of
+
+pub refusal_remembers : (why : Status) → IsRefusal why → why ≢ status.ImageRefused image.OutOfMemory
+refusal_remembers why is same = subst IsRefusal same is
+
+pub run_remembers : (answer : Status) → IsOfRun answer → answer ≢ status.ImageRefused image.OutOfMemory
+run_remembers answer of same = subst IsOfRun same of
 
 -- What the player leaves is the outcome of its run.
 pub outcome_is : (r : Reading) (setup : Setup) (player : Player) (bytes : List ℕ) (events : List Event) (tail : List TailLine)

@@ -1,6 +1,7 @@
 -- A step of the player is a step of the machine.
-use Rattle.std.proofs.Common.{◌≡◌, ◌≢◌, ℕ, ◌+◌, ◌*◌, ◌<◌, ◌≤◌, Bool, true, false, not, ◌||◌, ◌==◌, if◌then◌else◌, List, [], ◌∷◌, ◌++◌, length, ◌⊎◌, inl, inr, refl, ap, sym, subst, ◌∙◌, arith, get_or, set, length-set, get_or-set_same, get_or-set_other, eq-eqb}
-use Rattle.std.specs.Prelude.{min, nat_lt}
+use Rattle.std.proofs.Common.{◌≡◌, ◌≢◌, ℕ, ◌+◌, ◌*◌, ◌<◌, ◌≤◌, Bool, true, false, not, ◌||◌, ◌&&◌, ◌==◌, if◌then◌else◌, List, [], ◌∷◌, ◌++◌, length, ◌⊎◌, inl, inr, refl, ap, sym, subst, ◌∙◌, arith, get_or, set, length-set, get_or-set_same, get_or-set_other, eq-eqb}
+use Rattle.std.specs.Prelude.{min, nat_lt, is_some}
+use Rattle.std.specs.List.{list_all}
 use Rattle.std.proofs.lemmas.Bool.{cases_eq, cases_Bool}
 use Rattle.std.proofs.lemmas.Bool.Decides.{nat_tests}
 use Rattle.std.proofs.lemmas.List.{get_or_default}
@@ -10,9 +11,9 @@ use Rattle.flex_base.specs.State.{State, start}
 use Rattle.flex_base.specs.Place.{UART}
 use Rattle.flex_base.specs.StoryTree.{Want, Asks, Ends, IsOver, IsParked}
 use Rattle.flex_base.specs.Reservations.{asked}
-use Rattle.flex_base.specs.Devices.{is_transmit, sent_bytes}
+use Rattle.flex_base.specs.Devices.{is_transmit, sent_bytes, device_stop}
 use Rattle.transplant_plan.specs.Assignment.{default_plan}
-use Rattle.flex_base.specs.Unsplit.{Machine, Made, Instruction, story_of, instruction_at, instruction_from, instruction_after, want_of, next_of, resumes, is_woken_in, reply_to, begin, step, reach, make, makes, does}
+use Rattle.flex_base.specs.Unsplit.{Machine, Made, Instruction, story_of, instruction_at, instruction_from, instruction_after, want_of, next_of, resumes, is_woken_in, reply_to, begin, step, reach, make, makes, does, hart_numbers, is_idle, has_ended}
 use Rattle.flex_base.specs.Rounds.{turn_of}
 use Rattle.transplant_plan.specs.Split.{Plan, split_event, split_run, first_split}
 use Rattle.flex_base.specs.declared.access.Access.{Access}
@@ -20,9 +21,10 @@ use Rattle.flex_base.specs.declared.access.Access.TheVariants as acc
 use Rattle.flex_base.specs.declared.access.Reply.{Reply}
 use Rattle.flex_base.specs.declared.event.EndPart.{EndPart}
 use Rattle.flex_base.specs.declared.event.What.TheVariants as what
+use Rattle.flex_base.specs.declared.settings.Layout.{Layout}
 use Rattle.flex_base.specs.declared.settings.Settings.{Settings}
 use Rattle.flex_base.proofs.Machines.{reach_push, next_ends, step_is, instruction-set}
-use Rattle.flex_base.proofs.Turns.{turn_of-asks, turn_of-woken}
+use Rattle.flex_base.proofs.Turns.{turn_of-asks, turn_of-woken, ended_all, ended_not}
 use Rattle.flex_base.proofs.Standing.{woken_told}
 use Rattle.flex_base.proofs.Console.{sent_room}
 use Rattle.hart_story.specs.Progress.{IsIn, begun, is_parked}
@@ -34,7 +36,7 @@ use Rattle.devices.specs.View.{DevicesView, ConsoleView, has_room, HasRoom, most
 use Rattle.flex_top.specs.Memory.{Serves, ram_after, devices_after}
 use Rattle.flex_top.specs.declared.memory.Memory.{Memory}
 use Rattle.flex_top.specs.Splitting.{splitting_of}
-use Rattle.flex_top.specs.Play.{IsHart, IsReached, IsAt, progress_at, layout_of}
+use Rattle.flex_top.specs.Play.{IsHart, IsReached, IsAt, TellsIdle, progress_at, layout_of}
 use Rattle.tracer.specs.Trace.{settings_of}
 use Rattle.flex_top.specs.declared.player.Player.{Player}
 
@@ -121,7 +123,19 @@ reached_on setup u h reached = record {
   is = ap (λ (m : Machine). step setup m h) reached.is ∙ sym (reach_push setup (begin setup) reached.order h);
 }
 
+-- Whether the run has ended.
+
+pub ended_is : (setup : Setup) (u : Machine) (stops idle : Bool) → is_some (device_stop setup.harts u.devices) ≡ stops → (stops ≡ true → TellsIdle setup u idle)
+    → (stops && idle) ≡ has_ended setup u
+ended_is setup u true true e tells = sym (ended_all setup u e (tells refl))
+ended_is setup u true false e tells = let busy = tells refl in sym (ended_not setup u busy.0 busy.1 busy.2)
+ended_is setup u false idle e tells = sym (ap (λ b. b && list_all (λ h. is_idle (want_of setup u h)) (hart_numbers setup)) e)
+
 -- One hart.
+
+pub some_hart : (xs : List Hart) → 0 < length xs → Hart
+some_hart [] some = absurd (omega (arith, some))
+some_hart (hart ∷ xs) some = hart
 
 -- a hart that was read from the player's, whatever stands for one beyond them
 pub hart_read : (harts : List Hart) (h : ℕ) (hart other : Hart) → h < length harts → hart ≡ get_or harts h hart → get_or harts h other ≡ hart
@@ -131,21 +145,24 @@ pub far_read : (player : Player) (h : ℕ) (far : Progress) → h < length playe
 far_read player h far within same = get_or_default player.progress.items h begun far within ∙ sym same
 
 -- what was read of the player's hart of this number stands for it
-pub in_hart : (setup : Setup) (u : Machine) (player : Player) (h : ℕ) (hart : Hart) (far : Progress) → IsAt setup u player → h < setup.harts → hart ≡ get_or player.harts.items h hart → far ≡ get_or player.progress.items h far
-    → IsIn setup (instruction_at u h) hart far (layout_of player.settings) player.settings.budget
-in_hart setup u player h hart far at below same_hart same_far =
+pub in_hart : (setup : Setup) (u : Machine) (player : Player) (h : ℕ) (hart : Hart) (far : Progress) (layout : Layout) → IsAt setup u player → h < setup.harts
+    → hart ≡ get_or player.harts.items h hart → far ≡ get_or player.progress.items h far → layout ≡ layout_of player.settings
+    → IsIn setup (instruction_at u h) hart far layout player.settings.budget
+in_hart setup u player h hart far layout at below same_hart same_far same_layout =
     let in_progress : h < length player.progress.items = omega (arith, below, at.progress) in
     let AtHart : Hart → Type 0 = λ x. IsIn setup (instruction_at u h) x (progress_at player h) (layout_of (settings_of setup)) setup.budget in
     let AtFar : Progress → Type 0 = λ x. IsIn setup (instruction_at u h) hart x (layout_of (settings_of setup)) setup.budget in
     let At : Settings → Type 0 = λ s. IsIn setup (instruction_at u h) hart far (layout_of s) s.budget in
-    subst At (sym at.settings) (subst AtFar (far_read player h far in_progress same_far) (subst AtHart (sym same_hart) (at.each h hart below)))
+    let Of : Layout → Type 0 = λ l. IsIn setup (instruction_at u h) hart far l player.settings.budget in
+    subst Of (sym same_layout) (subst At (sym at.settings) (subst AtFar (far_read player h far in_progress same_far) (subst AtHart (sym same_hart) (at.each h hart below))))
 
 -- the same, by the settings of the run
-pub in_setup : (setup : Setup) (u : Machine) (player : Player) (i : Instruction) (hart : Hart) (far : Progress) → IsAt setup u player
-    → IsIn setup i hart far (layout_of player.settings) player.settings.budget → IsIn setup i hart far (layout_of (settings_of setup)) setup.budget
-in_setup setup u player i hart far at there =
+pub in_setup : (setup : Setup) (u : Machine) (player : Player) (i : Instruction) (hart : Hart) (far : Progress) (layout : Layout) → IsAt setup u player → layout ≡ layout_of player.settings
+    → IsIn setup i hart far layout player.settings.budget → IsIn setup i hart far (layout_of (settings_of setup)) setup.budget
+in_setup setup u player i hart far layout at same_layout there =
+    let Of : Layout → Type 0 = λ l. IsIn setup i hart far l player.settings.budget in
     let At : Settings → Type 0 = λ s. IsIn setup i hart far (layout_of s) s.budget in
-    subst At at.settings there
+    subst At at.settings (subst Of same_layout there)
 
 -- a hart, in a state of the machine in which its instruction is this one
 hart_is : (setup : Setup) (v : Machine) (h : ℕ) (i : Instruction) (hart hart' : Hart) (far far' : Progress)

@@ -224,11 +224,15 @@ impl Player {
                 self.run.add_end(hart, class, part)?;
                 Ok(Step::Ended)
             }
-            Need::Parked if self.memory.devices.woken(hart) => {
-                self.make_access(h, Access::Pulse { tick: false }, Class::Pulse)?;
-                Ok(Step::Accessed)
+            Need::Parked => {
+                if self.memory.devices.woken(hart) {
+                    self.make_access(h, Access::Pulse { tick: false }, Class::Pulse)?;
+                    Ok(Step::Accessed)
+                } else {
+                    Ok(Step::Rested)
+                }
             }
-            Need::Parked | Need::Over => Ok(Step::Rested),
+            Need::Over => Ok(Step::Rested),
         }
     }
 
@@ -247,7 +251,8 @@ impl Player {
         let layout = self.layout();
         let reply = self.memory.act(hart, &access);
         give(&self.harts[h], &mut self.progress[h], &layout, self.settings.budget, reply);
-        self.run.add_access(hart, class, access, reply)
+        self.run.add_access(hart, class, access, reply)?;
+        Ok(())
     }
 
     #[inline(always)]
