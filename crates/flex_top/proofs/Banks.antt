@@ -15,8 +15,8 @@ use Rattle.mem_lines.specs.Steps.{IsHere}
 use Rattle.flex_top.specs.Answer.{setup_of}
 use Rattle.flex_top.specs.Memory.{Keeps, Serves, ram_after, devices_after}
 use Rattle.flex_top.specs.declared.memory.Memory.{Memory}
-use Rattle.flex_base.specs.DevicesSoFar.{time_of, time_after}
-use Rattle.std.proofs.lemmas.List.Sums.{fold_push}
+use Rattle.devices.specs.View as devices
+use Rattle.devices.specs.View.{DevicesView}
 
 -- all of RAM after one more access of it
 pub keeps_ram : (setup : Setup) (made : List Done) (old new : Bank) (h : ℕ) (access : Access) (reply : Reply) → is_ram_access access ≡ true → IsSame old new → Keeps setup made old
@@ -40,8 +40,9 @@ in_ram_of harts ram (acc.Amo op address width value) is placed = placed
 in_ram_of harts ram other is placed = absurd cc
 
 -- the bank that holds one image at the start holds each image with the same bytes
-pub same_start : (start image : Loaded) (settings : Settings) (bank : Bank) → IsSameStart start image → IsReplay (setup_of image settings) [] bank → IsReplay (setup_of start settings) [] bank
-same_start start image settings bank same replay = record {
+pub same_start : (start image : Loaded) (input : List ℕ) (settings : Settings) (bank : Bank) → IsSameStart start image → IsReplay (setup_of image input settings) [] bank
+    → IsReplay (setup_of start input settings) [] bank
+same_start start image input settings bank same replay = record {
   ram = replay.ram;
   each = λ address inside. replay.each address inside ∙ sym (same.bytes address);
   reservations = replay.reservations;
@@ -60,25 +61,31 @@ is_here harts ram bank access alone is placed =
 
 -- What harts reach, after one more access.
 
-time_push : (made : List Done) (h : ℕ) (access : Access) (reply : Reply) → time_of (with_access made h access reply) ≡ time_after (time_of made) access
-time_push made h access reply = fold_push (λ time (d : Done). time_after time d.access) 0 made _
+pub serves_ram : (setup : Setup) (ram acted : List Done) (old new : Memory) (h : ℕ) (access : Access) (reply : Reply) → is_ram_access access ≡ true
+    → IsSame old.lines new.lines → new.devices ≡ old.devices → Serves setup ram acted old → IsReplay setup (with_access ram h access reply) new.lines
+    → Serves setup (ram_after ram h access reply) (devices_after acted h access reply) new
+serves_ram setup ram acted old new h access reply is same devices serves replay =
+    let acted_on : devices_after acted h access reply ≡ acted = ap (λ b. if b then acted else with_access acted h access reply) is in
+    let Replays : List Done → Type 0 = λ made. devices.IsReplay setup.harts setup.input made new.devices in
+    let Of : DevicesView → Type 0 = λ d. devices.IsReplay setup.harts setup.input acted d in
+    record {
+      ram = keeps_ram setup ram old.lines new.lines h access reply is same serves.ram replay;
+      devices = subst Replays (sym acted_on) (subst Of (sym devices) serves.devices);
+      keeps = ap (λ (d : DevicesView). d.console.keeps) devices ∙ serves.keeps;
+      room = ap (λ (d : DevicesView). d.console.room) devices ∙ serves.room;
+    }
 
-pub serves_ram : (setup : Setup) (ram devices : List Done) (old new : Memory) (h : ℕ) (access : Access) (reply : Reply) → is_ram_access access ≡ true
-    → IsSame old.lines new.lines → new.time ≡ old.time → Serves setup ram devices old → IsReplay setup (with_access ram h access reply) new.lines
-    → Serves setup (ram_after ram h access reply) (devices_after devices h access reply) new
-serves_ram setup ram devices old new h access reply is same time serves replay = record {
-  ram = keeps_ram setup ram old.lines new.lines h access reply is same serves.ram replay;
-  time = time ∙ serves.time ∙ sym (ap (λ b. time_of (if b then devices else with_access devices h access reply)) is);
-}
-
-pub serves_device : (setup : Setup) (ram devices : List Done) (old new : Memory) (h : ℕ) (access : Access) (reply : Reply) → is_ram_access access ≡ false
-    → new.lines ≡ old.lines → new.time ≡ time_after old.time access → Serves setup ram devices old
-    → Serves setup (ram_after ram h access reply) (devices_after devices h access reply) new
-serves_device setup ram devices old new h access reply is lines time serves =
+pub serves_device : (setup : Setup) (ram acted : List Done) (old new : Memory) (h : ℕ) (access : Access) (reply : Reply) → is_ram_access access ≡ false
+    → new.lines ≡ old.lines → devices.IsSame old.devices new.devices → Serves setup ram acted old
+    → devices.IsReplay setup.harts setup.input (with_access acted h access reply) new.devices
+    → Serves setup (ram_after ram h access reply) (devices_after acted h access reply) new
+serves_device setup ram acted old new h access reply is lines same serves replay =
     let Kept : Bank → Type 0 = λ b. Keeps setup (ram_after ram h access reply) b in
     let After : List Done → Type 0 = λ made. Keeps setup made old.lines in
+    let Replays : List Done → Type 0 = λ made. devices.IsReplay setup.harts setup.input made new.devices in
     record {
       ram = subst Kept (sym lines) (subst After (sym (ap (λ b. if b then with_access ram h access reply else ram) is)) serves.ram);
-      time = time ∙ ap (λ t. time_after t access) serves.time ∙ sym (time_push devices h access reply)
-          ∙ sym (ap (λ b. time_of (if b then devices else with_access devices h access reply)) is);
+      devices = subst Replays (sym (ap (λ b. if b then acted else with_access acted h access reply) is)) replay;
+      keeps = same.keeps ∙ serves.keeps;
+      room = same.room ∙ serves.room;
     }

@@ -1,30 +1,28 @@
 -- What a command does, by what the outside gave and what came of the run.
-use Rattle.std.proofs.Common.{◌≡◌, ◌≢◌, ℕ, ◌≤◌, false, if◌then◌else◌, nat_lt, List, [], ◌++◌, length, Option, None, Some, Result, Ok, Err, inl, inr, refl, ap, sym, subst, ◌∙◌, arith}
-use Rattle.std.specs.Prelude.{◌<◌, Bool, true, replicate, unwrap_or, IfSome}
-use Rattle.std.proofs.lemmas.Bool.Decides.{nat_tests}
-use Rattle.std.proofs.lemmas.List.{append-nil, length-replicate}
-use Rattle.flex_base.specs.Files.{Files, Counts, Taken, ChangesFile, ChangesText, Said, SaidPart}
+use Rattle.std.proofs.Common.{◌≡◌, ◌≢◌, ℕ, ◌<◌, List, [], Option, None, Some, Result, Ok, Err, inl, inr, refl, ap, sym, subst, ◌∙◌, arith}
+use Rattle.std.specs.Prelude.{IfSome}
+use Rattle.flex_base.specs.Files.{Files, Counts, ChangesFile, ChangesText, Said, SaidPart}
 use Rattle.flex_base.specs.Loaded.{Loaded}
-use Rattle.flex_base.specs.Outside.{Outside, OnlyReads, OnlyWrites, Writes}
-use Rattle.flex_base.specs.Unsplit.{begin, reach}
+use Rattle.flex_base.specs.Outside.{Outside, OnlyReads, Writes}
+use Rattle.flex_base.specs.Setup.{Setup}
+use Rattle.flex_base.specs.Devices.{sent_bytes}
+use Rattle.flex_base.specs.Unsplit.{reach}
 use Rattle.flex_base.specs.Rounds.{names_played}
-use Rattle.flex_base.specs.Built.{first_unbuilt}
 use Rattle.flex_base.specs.Journal.{console}
 use Rattle.flex_base.specs.declared.event.Event.{Event}
-use Rattle.flex_base.specs.declared.settings.Settings.{Settings}
-use Rattle.flex_base.specs.declared.outer.TakeFault.TheVariants as fault
 use Rattle.image_loader.specs.declared.fault.ImageFault.TheVariants as image
-use Rattle.flex_top.specs.Words.{Reading}
-use Rattle.flex_top.specs.Answer.{image_limit, image_in, image_from, setup_of, journal_of, answer_of_run, answer_of, expected, outcome_of}
-use Rattle.flex_top.specs.Play.{IsReached}
-use Rattle.tracer.specs.Trace.{tail_of, whole_text}
-use Rattle.flex_top.specs.Does.{IsAnswer, Answers, IsCalm, IsEnded, WritesAll, WritesPart, Leaves, LeavesPart, Does}
-use Rattle.flex_top.specs.Written.{Becomes, BecomesPart}
-use Rattle.flex_top.specs.declared.player.Player.{Player}
+use Rattle.tracer.specs.Trace.{settings_of, tail_of, whole_text}
 use Rattle.tracer.specs.declared.tail_text.TailLine.{TailLine}
+use Rattle.flex_top.specs.Words.{Reading}
+use Rattle.flex_top.specs.Answer.{Sources, file_among, sources_among, image_from, input_from, setup_of, journal_of, answer_of, expected, Outcome, outcome_with, outcome_of_run, outcome_of, outcome}
+use Rattle.flex_top.specs.Does.{IsAnswer, Answers, IsCalm, IsEnded, WritesAll, WritesPart, Leaves, BreaksSaying, BreaksWriting, LeavesPart, LeavesNothing, Does, TellsFaults}
+use Rattle.flex_top.specs.Play.{IsAt}
+use Rattle.flex_top.specs.Taking.{IsFile, Gives, Refuses, IsRefused, IsRefusal, IsOfRun}
+use Rattle.flex_top.specs.Written.{OnlyLeaves, Becomes, BecomesPart}
+use Rattle.flex_top.specs.declared.player.Player.{Player}
 use Rattle.flex_top.specs.declared.status.Status.{Status}
 use Rattle.flex_top.specs.declared.status.Status.TheVariants as status
-use Rattle.flex_top.proofs.Writing.{trace_is, run_quiet}
+use Rattle.flex_top.proofs.Writing.{trace_is, console_is}
 
 -- a call whose count stays has not failed
 pub calm_unfailed : (before now : ℕ) (Fails : Type 0) → Counts before now Fails → IsCalm before now → Fails → ⊥
@@ -38,33 +36,129 @@ ended_by status.ReadFault is unread unwritten = absurd (unread refl)
 ended_by status.WriteFault is unread unwritten = absurd (unwritten refl)
 ended_by status.Usage is unread unwritten = absurd cc
 ended_by (status.ImageRefused why) is unread unwritten = absurd cc
-ended_by (status.Unbuilt pc) is unread unwritten = absurd cc
-
-within : (file : List ℕ) → length file ≤ image_limit → nat_lt image_limit (length file) ≡ false
-within file fits = grind (arith, nat_tests)
-
--- a file within the limit is loaded
-taken_within : (file : List ℕ) (ram : ℕ) → length file ≤ image_limit → image_from (Some file) ram ≡ image_in file ram
-taken_within file ram fits = ap (λ b. if b then Err (status.ImageRefused (image.TooLong (length file))) else image_in file ram) (within file fits)
+ended_by (status.InputTooLong n) is unread unwritten = absurd cc
 
 -- The files that a command goes by: those that are told, else some.
 
-told_files : (held : Option Files) (some : Files) → IfSome held (λ told. unwrap_or held some ≡ told)
-told_files None some = tt
-told_files (Some files) some = refl
+abbrev pub file_held : Option Files → Option (List ℕ) → Option (List ℕ)
+file_held None name = Some []
+file_held (Some files) name = file_among name files
 
--- each name has this file, where files aren't told
-abbrev each : Option (List ℕ) → Files
-each file = λ name. file
+pub told_file : (held : Option Files) (name : Option (List ℕ)) → IsFile held name (file_held held name)
+told_file None name = tt
+told_file (Some files) name = refl
 
--- so the file that was taken is that of its name
-taken_file : (held : Option Files) (name file : List ℕ) → Taken held name image_limit (Ok file) → unwrap_or held (each (Some file)) name ≡ Some file
-taken_file None name file took = refl
-taken_file (Some files) name file took = took
+abbrev sources : Option (List ℕ) → Option (List ℕ) → Sources
+sources image input = record { image = image; input = input }
 
-taken_image : (held : Option Files) (name file : List ℕ) (ram : ℕ) → Taken held name image_limit (Ok file) → length file ≤ image_limit
-    → image_from (unwrap_or held (each (Some file)) name) ram ≡ image_in file ram
-taken_image held name file ram took fits = ap (λ (o : Option (List ℕ)). image_from o ram) (taken_file held name file took) ∙ taken_within file ram fits
+told_sources : (held : Option Files) (r : Reading) (image input : Option (List ℕ)) → IsFile held (Some r.image) image → IsFile held r.input input
+    → IfSome held (λ files. sources image input ≡ sources_among r files)
+told_sources None r image input first second = tt
+told_sources (Some files) r image input first second = ap (λ (o : Option (List ℕ)). sources o input) first ∙ ap (λ (o : Option (List ℕ)). sources (files r.image) o) second
+
+-- one read after another
+
+pub reads_after : (old mid new : Outside) (Fails Fails' : Type 0) → OnlyReads old mid Fails → (Fails → ⊥) → OnlyReads mid new Fails' → OnlyReads old new Fails'
+reads_after old mid new Fails Fails' first unfailed second =
+    let From : ℕ → Type 0 = λ n. Counts n new.read_faults Fails' in
+    record {
+      cause = subst From (first.cause.calm unfailed) second.cause;
+      write_faults = second.write_faults ∙ first.write_faults;
+      held = second.held ∙ first.held;
+      written = second.written ∙ first.written;
+      said = second.said ∙ first.said;
+    }
+
+-- Refusals.
+
+refusal_unended : (why : Status) → IsRefusal why → why ≢ status.Ended
+refusal_unended why is same = subst IsRefusal same is
+
+refusal_unwritten : (why : Status) → IsRefusal why → why ≢ status.WriteFault
+refusal_unwritten why is same = subst IsRefusal same is
+
+answer_by : (e why : Status) → IsRefusal why → why ≡ e → IsAnswer e why
+answer_by e status.ReadFault is same = tt
+answer_by e status.OutOfMemory is same = tt
+answer_by e (status.ImageRefused fault) is same = same
+answer_by e (status.InputTooLong n) is same = same
+answer_by e status.Usage is same = absurd is
+answer_by e status.Ended is same = absurd is
+answer_by e status.WriteFault is same = absurd is
+
+-- the refusal of a file is the answer, where what the file means leads to it
+refusal_answers : (A : Type 0) (file : Option (List ℕ)) (meaning : Result A Status) (e why : Status) → Refuses A file meaning why → IsRefusal why → (meaning ≡ Err why → why ≡ e) → IsAnswer e why
+refusal_answers A None meaning e why refuses is leads = answer_by e why is (leads refuses)
+refusal_answers A (Some file) meaning e status.ReadFault refuses is leads = tt
+refusal_answers A (Some file) meaning e status.OutOfMemory refuses is leads = tt
+refusal_answers A (Some file) meaning e (status.ImageRefused fault) refuses is leads = leads refuses
+refusal_answers A (Some file) meaning e (status.InputTooLong n) refuses is leads = leads refuses
+refusal_answers A (Some file) meaning e status.Usage refuses is leads = absurd is
+refusal_answers A (Some file) meaning e status.Ended refuses is leads = absurd is
+refusal_answers A (Some file) meaning e status.WriteFault refuses is leads = absurd is
+
+-- of the image
+image_answers : (file : Option (List ℕ)) (meaning : Result Loaded Status) (input : Result (List ℕ) Status) (why : Status) → Refuses Loaded file meaning why → IsRefusal why
+    → Answers file (answer_of meaning input) why
+image_answers None meaning input why refuses is = sym (ap (λ (l : Result Loaded Status). answer_of l input) refuses)
+image_answers (Some file) meaning input why refuses is =
+    refusal_answers Loaded (Some file) meaning (answer_of meaning input) why refuses is (λ same. sym (ap (λ (l : Result Loaded Status). answer_of l input) same))
+
+-- an image that is given has a file
+given_answers : (file : Option (List ℕ)) (ram : ℕ) (start : Loaded) (e why : Status) → image_from file ram ≡ Ok start → IsAnswer e why → Answers file e why
+given_answers None ram start e why gives is = absurd cc
+given_answers (Some file) ram start e why gives is = is
+
+ended_refused : (file : Option (List ℕ)) (e why : Status) → Answers file e why → IsRefusal why → e ≡ status.Ended → (why ≡ status.ReadFault → ⊥) → IsEnded why
+ended_refused None e why is refusal ends unread = absurd (refusal_unended why refusal (is ∙ ends))
+ended_refused (Some file) e why is refusal ends unread =
+    let Is : Status → Type 0 = λ x. IsAnswer x why in
+    ended_by why (subst Is ends is) unread (refusal_unwritten why refusal)
+
+unwritten : (old : Option Files) (name : List ℕ) → ChangesFile old old name (λ was is. Unit {0})
+unwritten None name = refl
+unwritten (Some files) name = (tt, λ other differs. refl)
+
+does_refuse : (r : Reading) (old new : Outside) (image input : Option (List ℕ)) (why : Status) → IsFile old.held (Some r.image) image → IsFile old.held r.input input
+    → Answers image (expected r (sources image input)) why → IsRefusal why → OnlyReads old new (why ≡ status.ReadFault) → Does r old why new
+does_refuse r old new image input why first second is refusal took =
+    let Stays : Option Files → Type 0 = λ w. ChangesFile old.written w r.trace (λ was is. Unit {0}) in
+    record {
+      files = sources image input;
+      told = told_sources old.held r image input first second;
+      answers = is;
+      completes = λ ends calm quiet.
+          ended_refused image (expected r (sources image input)) why is refusal ends (calm_unfailed old.read_faults new.read_faults (why ≡ status.ReadFault) took.cause calm);
+      ended = λ at. absurd (refusal_unended why refusal at);
+      cut = λ at. absurd (refusal_unwritten why refusal at);
+      nothing = λ unended unfailed. record { said = took.said; written = took.written };
+      others = subst Stays (sym took.written) (unwritten old.written r.trace);
+      held = took.held;
+      long_image = λ n same. subst IsRefusal same refusal;
+      long_input = λ n same. subst IsRefusal same refusal;
+    }
+
+-- the image is refused
+pub does_refuse_image : (r : Reading) (old new : Outside) (why : Status) → IsRefused Loaded old.held (Some r.image) (λ file. image_from file r.settings.ram) why → IsRefusal why
+    → OnlyReads old new (why ≡ status.ReadFault) → Does r old why new
+does_refuse_image r old new why refused refusal took =
+    let input = file_held old.held r.input in
+    does_refuse r old new refused.file input why refused.told (told_file old.held r.input)
+    (image_answers refused.file (image_from refused.file r.settings.ram) (input_from input) why refused.refuses refusal) refusal took
+
+-- the image is given, and the input is refused
+pub does_refuse_input : (r : Reading) (old new : Outside) (start : Loaded) (why : Status) → Gives Loaded old.held (Some r.image) (λ file. image_from file r.settings.ram) start
+    → IsRefused (List ℕ) old.held r.input input_from why → IsRefusal why → OnlyReads old new (why ≡ status.ReadFault) → Does r old why new
+does_refuse_input r old new start why gives refused refusal took =
+    let meaning = input_from refused.file in
+    let e = expected r (sources gives.file refused.file) in
+    does_refuse r old new gives.file refused.file why gives.told refused.told
+    (given_answers gives.file r.settings.ram start e why gives.is
+    (refusal_answers (List ℕ) refused.file meaning e why refused.refuses refusal
+    (λ same. sym (ap (λ (l : Result Loaded Status). answer_of l meaning) gives.is ∙ ap (λ (i : Result (List ℕ) Status). answer_of (Ok start) i) same))))
+    refusal took
+
+-- Runs.
 
 -- the same left, where the outside was as it is
 
@@ -82,168 +176,119 @@ part_from : (old mid new : Outside) (file : Option (List ℕ × List ℕ)) → m
 part_from old mid new None same writes = writes ∙ same
 part_from old mid new (Some file) same writes = writes_from old.written mid.written new.written file.0 (BecomesPart file.1) same writes
 
--- the image was taken, and `solo` did the rest
-pub does_solo : (r : Reading) (old mid new : Outside) (file : List ℕ) (answer : Status) (Fails : Type 0) → Taken old.held r.image image_limit (Ok file) → length file ≤ image_limit → OnlyReads old mid Fails
-    → IsAnswer (answer_of (image_in file r.settings.ram) r.settings r.order) answer
-    → (answer ≡ status.Ended → Leaves (outcome_of (image_in file r.settings.ram) r) mid new)
-    → (answer ≡ status.WriteFault → LeavesPart (outcome_of (image_in file r.settings.ram) r) mid new)
-    → (answer ≢ status.Ended → answer ≢ status.WriteFault → new.written ≡ mid.written) → Writes mid new r.trace (λ was is. Unit {0})
-    → OnlyWrites mid new (answer ≡ status.WriteFault) → answer ≢ status.ReadFault → ((n : ℕ) → answer ≢ status.ImageRefused (image.TooLong n)) → Does r old answer new
-does_solo r old mid new file answer Fails took fits took_only is ended cut nothing others writes unread short =
-    let files : Files = unwrap_or old.held (each (Some file)) in
-    let same : image_from (files r.image) r.settings.ram ≡ image_in file r.settings.ram = taken_image old.held r.image file r.settings.ram took fits in
-    let Is : Result Loaded Status → Type 0 = λ l. IsAnswer (answer_of l r.settings r.order) answer in
-    let Answer : Option (List ℕ) → Type 0 = λ o. Answers o (expected r files) answer in
+leaves_from : (o : Outcome) (old mid new : Outside) → mid.said ≡ old.said → mid.written ≡ old.written → Leaves o mid new → Leaves o old new
+leaves_from o old mid new said written left = record {
+  said = says_from old.said mid.said new.said (Said o.said) said left.said;
+  file = all_from old mid new o.file written left.file;
+}
+
+leaves_part_from : (o : Outcome) (old mid new : Outside) → mid.said ≡ old.said → mid.written ≡ old.written → LeavesPart o mid new → LeavesPart o old new
+leaves_part_from o old mid new said written part = elim part [
+  | inl saying ↦
+      let broken : BreaksSaying o old new = record {
+        said = says_from old.said mid.said new.said (SaidPart o.said) said saying.said;
+        written = saying.written ∙ written;
+      } in
+      inl broken
+  | inr writing ↦
+      let broken : BreaksWriting o old new = record {
+        said = says_from old.said mid.said new.said (Said o.said) said writing.said;
+        file = part_from old mid new o.file written writing.file;
+      } in
+      inr broken
+]
+
+run_answers : (answer : Status) → IsOfRun answer → IsAnswer status.Ended answer
+run_answers status.Ended of = refl
+run_answers status.OutOfMemory of = tt
+run_answers status.WriteFault of = refl
+run_answers status.ReadFault of = absurd of
+run_answers status.Usage of = absurd of
+run_answers (status.ImageRefused fault) of = absurd of
+run_answers (status.InputTooLong n) of = absurd of
+
+run_read : (answer : Status) → IsOfRun answer → answer ≢ status.ReadFault
+run_read answer of same = subst IsOfRun same of
+
+-- image and input are given, and `solo` did the rest
+pub does_run : (r : Reading) (old mid new : Outside) (start : Loaded) (input : List ℕ) (answer : Status) (Fails : Type 0)
+    → Gives Loaded old.held (Some r.image) (λ file. image_from file r.settings.ram) start → Gives (List ℕ) old.held r.input input_from input
+    → OnlyReads old mid Fails → IsOfRun answer
+    → (answer ≡ status.Ended → Leaves (outcome_of_run r (setup_of start input r.settings)) mid new)
+    → (answer ≡ status.WriteFault → LeavesPart (outcome_of_run r (setup_of start input r.settings)) mid new)
+    → (answer ≢ status.Ended → answer ≢ status.WriteFault → LeavesNothing mid new) → Writes mid new r.trace (λ was is. Unit {0})
+    → OnlyLeaves mid new (answer ≡ status.WriteFault) → Does r old answer new
+does_run r old mid new start input answer Fails image_given input_given took of ended cut nothing others left =
+    let files : Sources = sources image_given.file input_given.file in
+    let ends : expected r files ≡ status.Ended =
+    ap (λ (l : Result Loaded Status). answer_of l (input_from input_given.file)) image_given.is ∙ ap (λ (i : Result (List ℕ) Status). answer_of (Ok start) i) input_given.is in
+    let of_run = outcome_of_run r (setup_of start input r.settings) in
+    let same : outcome r files ≡ of_run =
+    ap (λ (l : Result Loaded Status). outcome_of r l (input_from input_given.file)) image_given.is ∙ ap (λ (i : Result (List ℕ) Status). outcome_of r (Ok start) i) input_given.is in
     let By : Status → Type 0 = λ e. IsAnswer e answer in
     let Quiet : ℕ → Type 0 = λ n. IsCalm n new.write_faults in
-    let All : Result Loaded Status → Type 0 = λ l. Leaves (outcome_of l r) old new in
-    let Part : Result Loaded Status → Type 0 = λ l. LeavesPart (outcome_of l r) old new in
+    let All : Outcome → Type 0 = λ o. Leaves o old new in
+    let Part : Outcome → Type 0 = λ o. LeavesPart o old new in
+    let is = run_answers answer of in
     record {
       files = files;
-      told = told_files old.held (each (Some file));
-      answers = subst Answer (sym (taken_file old.held r.image file took)) (subst Is (sym same) is);
-      completes = λ ends calm quiet.
-          ended_by answer (subst By ends (subst Is (sym same) is)) unread
-          (calm_unfailed mid.write_faults new.write_faults (answer ≡ status.WriteFault) writes.cause (subst Quiet (sym took_only.write_faults) quiet));
-      ended = λ at.
-          let left = ended at in
-          subst All (sym same) (record {
-            said = says_from old.said mid.said new.said (Said (outcome_of (image_in file r.settings.ram) r).said) took_only.said left.said;
-            file = all_from old mid new (outcome_of (image_in file r.settings.ram) r).file took_only.written left.file;
-          });
-      cut = λ at.
-          let left = cut at in
-          subst Part (sym same) (record {
-            said = says_from old.said mid.said new.said (SaidPart (outcome_of (image_in file r.settings.ram) r).said) took_only.said left.said;
-            file = part_from old mid new (outcome_of (image_in file r.settings.ram) r).file took_only.written left.file;
-          });
-      nothing = λ unended unfailed. nothing unended unfailed ∙ took_only.written;
-      others = writes_from old.written mid.written new.written r.trace (λ was is. Unit {0}) took_only.written others;
-      said = writes.said ∙ took_only.said;
-      held = writes.held ∙ took_only.held;
-      too_long = λ n is_long. absurd (short n is_long);
+      told = told_sources old.held r image_given.file input_given.file image_given.told input_given.told;
+      answers = given_answers image_given.file r.settings.ram start (expected r files) answer image_given.is (subst By (sym ends) is);
+      completes = λ expects calm quiet.
+          ended_by answer is (run_read answer of)
+          (calm_unfailed mid.write_faults new.write_faults (answer ≡ status.WriteFault) left.cause (subst Quiet (sym took.write_faults) quiet));
+      ended = λ at. subst All (sym same) (leaves_from of_run old mid new took.said took.written (ended at));
+      cut = λ at. subst Part (sym same) (leaves_part_from of_run old mid new took.said took.written (cut at));
+      nothing = λ unended unfailed.
+          let none = nothing unended unfailed in
+          record { said = none.said ∙ took.said; written = none.written ∙ took.written };
+      others = writes_from old.written mid.written new.written r.trace (λ was is. Unit {0}) took.written others;
+      held = left.held ∙ took.held;
+      long_image = λ n is_long. absurd (let At : Status → Type 0 = IsOfRun in subst At is_long of);
+      long_input = λ n is_long. absurd (let At : Status → Type 0 = IsOfRun in subst At is_long of);
     }
 
--- The image wasn't taken.
+-- Faults.
 
-unwritten : (old : Option Files) (name : List ℕ) → ChangesFile old old name (λ was is. Unit {0})
-unwritten None name = refl
-unwritten (Some files) name = (tt, λ other differs. refl)
+no_fault : (before now : ℕ) (Fails : Type 0) → now ≡ before → (Fails → ⊥) → Counts before now Fails
+no_fault before now Fails same unfailed = record {
+  no_fall = omega (arith, same);
+  failed = λ fails. absurd (unfailed fails);
+  calm = λ calm. same;
+}
 
-does_no_more : (r : Reading) (old new : Outside) (some : Files) (answer : Status) (Fails : Type 0) → OnlyReads old new Fails
-    → Answers (unwrap_or old.held some r.image) (expected r (unwrap_or old.held some)) answer
-    → (expected r (unwrap_or old.held some) ≡ status.Ended → IsCalm old.read_faults new.read_faults → IsEnded answer)
-    → answer ≢ status.Ended → answer ≢ status.WriteFault → ((n : ℕ) → answer ≡ status.ImageRefused (image.TooLong n) → image_limit < n) → Does r old answer new
-does_no_more r old new some answer Fails took_only is completes unended unfailed too_long =
-    let Stays : Option Files → Type 0 = λ w. ChangesFile old.written w r.trace (λ was is. Unit {0}) in
+pub tells_refusal : (old new : Outside) (why : Status) → IsRefusal why → OnlyReads old new (why ≡ status.ReadFault) → TellsFaults old why new
+tells_refusal old new why is took = record {
+  read = took.cause;
+  write = no_fault old.write_faults new.write_faults (why ≡ status.WriteFault) took.write_faults (refusal_unwritten why is);
+}
+
+pub tells_run : (old mid new : Outside) (answer : Status) (Fails : Type 0) → IsOfRun answer → OnlyReads old mid Fails → (Fails → ⊥) → OnlyLeaves mid new (answer ≡ status.WriteFault) → TellsFaults old answer new
+tells_run old mid new answer Fails of took unfailed left =
+    let From : ℕ → Type 0 = λ n. Counts n new.write_faults (answer ≡ status.WriteFault) in
     record {
-      files = unwrap_or old.held some;
-      told = told_files old.held some;
-      answers = is;
-      completes = λ ends calm quiet. completes ends calm;
-      ended = λ at. absurd (unended at);
-      cut = λ at. absurd (unfailed at);
-      nothing = λ unended unfailed. took_only.written;
-      others = subst Stays (sym took_only.written) (unwritten old.written r.trace);
-      said = took_only.said;
-      held = took_only.held;
-      too_long = too_long;
+      read = no_fault old.read_faults new.read_faults (answer ≡ status.ReadFault) (left.read_faults ∙ took.cause.calm unfailed) (run_read answer of);
+      write = subst From took.write_faults left.cause;
     }
 
-unread_answers : (file : Option (List ℕ)) (ram : ℕ) (settings : Settings) (order : List ℕ) → Answers file (answer_of (image_from file ram) settings order) status.ReadFault
-unread_answers None ram settings order = refl
-unread_answers (Some file) ram settings order = tt
+pub refusal_used : (why : Status) → IsRefusal why → why ≢ status.Usage
+refusal_used why is same = subst IsRefusal same is
 
--- it couldn't be read
-pub does_unread : (r : Reading) (old new : Outside) (Fails : Type 0) → OnlyReads old new Fails → Fails → Does r old status.ReadFault new
-does_unread r old new Fails took_only fails =
-    let files : Files = unwrap_or old.held (each None) in
-    does_no_more r old new (each None) status.ReadFault Fails took_only (unread_answers (files r.image) r.settings.ram r.settings r.order)
-    (λ ends calm. absurd (calm_unfailed old.read_faults new.read_faults Fails took_only.cause calm fails)) (λ at. cc) (λ at. cc) (λ n at. absurd cc)
+pub run_used : (answer : Status) → IsOfRun answer → answer ≢ status.Usage
+run_used answer of same = subst IsOfRun same of
 
-beyond : (n size : ℕ) → n ≡ size → image_limit < n → nat_lt image_limit size ≡ true
-beyond n size same is_long = grind (arith, nat_tests)
+pub refusal_remembers : (why : Status) → IsRefusal why → why ≢ status.ImageRefused image.OutOfMemory
+refusal_remembers why is same = subst IsRefusal same is
 
-inner : (n m : ℕ) → status.ImageRefused (image.TooLong n) ≡ status.ImageRefused (image.TooLong m) → n ≡ m
-inner n m same = cc
+pub run_remembers : (answer : Status) → IsOfRun answer → answer ≢ status.ImageRefused image.OutOfMemory
+run_remembers answer of same = subst IsOfRun same of
 
--- an image that is too long isn't expected to end
-ended_long : (file : Option (List ℕ)) (n : ℕ) (answer : Status) → Answers file answer (status.ImageRefused (image.TooLong n)) → answer ≡ status.Ended → ⊥
-ended_long None n answer is ends = cc
-ended_long (Some file) n answer is ends = cc
-
--- the answer of a file that is too long
-long_answers : (file : Option (List ℕ)) (bytes : List ℕ) (n ram : ℕ) (settings : Settings) (order : List ℕ) → file ≡ Some bytes → n ≡ length bytes → image_limit < n
-    → Answers file (answer_of (image_from file ram) settings order) (status.ImageRefused (image.TooLong n))
-long_answers file bytes n ram settings order is same is_long =
-    let At : Option (List ℕ) → Type 0 = λ o. Answers o (answer_of (image_from o ram) settings order) (status.ImageRefused (image.TooLong n)) in
-    let refused : ℕ → Status = λ size. status.ImageRefused (image.TooLong size) in
-    subst At (sym is) (ap refused same ∙ sym (ap (λ (b : Bool). answer_of (if b then Err (refused (length bytes)) else image_in bytes ram) settings order) (beyond n (length bytes) same is_long)))
-
--- where files aren't told, it has as many bytes as were seen
-taken_long : (held : Option Files) (name : List ℕ) (n ram : ℕ) (settings : Settings) (order : List ℕ) → Taken held name image_limit (Err (fault.TooLong n)) → image_limit < n
-    → Answers (unwrap_or held (each (Some (replicate n 0))) name) (answer_of (image_from (unwrap_or held (each (Some (replicate n 0))) name) ram) settings order) (status.ImageRefused (image.TooLong n))
-taken_long None name n ram settings order took is_long = long_answers (Some (replicate n 0)) (replicate n 0) n ram settings order refl (sym (length-replicate n 0)) is_long
-taken_long (Some files) name n ram settings order (bytes, is, same, is_long) over = long_answers (files name) bytes n ram settings order is same over
-
-pub does_too_long : (r : Reading) (old new : Outside) (n : ℕ) (Fails : Type 0) → OnlyReads old new Fails → Taken old.held r.image image_limit (Err (fault.TooLong n)) → image_limit < n
-    → Does r old (status.ImageRefused (image.TooLong n)) new
-does_too_long r old new n Fails took_only took is_long =
-    let some : Files = each (Some (replicate n 0)) in
-    let is = taken_long old.held r.image n r.settings.ram r.settings r.order took is_long in
-    does_no_more r old new some (status.ImageRefused (image.TooLong n)) Fails took_only is (λ ends calm. absurd (ended_long (unwrap_or old.held some r.image) n _ is ends)) (λ at. cc) (λ at. cc) (λ m same. subst (λ (k : ℕ). image_limit < k) (inner n m same) is_long)
-
--- there was no memory for it
-taken_wanting : (held : Option Files) (name : List ℕ) (answer : Status) → Taken held name image_limit (Err fault.OutOfMemory) → Answers (unwrap_or held (each (Some [])) name) answer status.OutOfMemory
-taken_wanting None name answer took = tt
-taken_wanting (Some files) name answer (bytes, is, fits) = let At : Option (List ℕ) → Type 0 = λ o. Answers o answer status.OutOfMemory in subst At (sym is) tt
-
-pub does_wanting : (r : Reading) (old new : Outside) (Fails : Type 0) → OnlyReads old new Fails → Taken old.held r.image image_limit (Err fault.OutOfMemory) → Does r old status.OutOfMemory new
-does_wanting r old new Fails took_only took =
-    let some : Files = each (Some []) in
-    does_no_more r old new some status.OutOfMemory Fails took_only (taken_wanting old.held r.image (expected r (unwrap_or old.held some)) took) (λ ends calm. inr refl) (λ at. cc) (λ at. cc) (λ n at. absurd cc)
-
--- What `solo` leaves.
-
-says_nothing : (a b : Option (List ℕ)) (bytes : List ℕ) → b ≡ a → bytes ≡ [] → ChangesText a b (Said bytes)
-says_nothing None b bytes same none = same
-says_nothing (Some a) None bytes same none = absurd cc
-says_nothing (Some a) (Some b) bytes same none = let is : b ≡ a = cc in is ∙ sym (append-nil a) ∙ ap (λ (t : List ℕ). a ++ t) (sym none)
-
-says_none_of : (a b : Option (List ℕ)) (bytes : List ℕ) → b ≡ a → ChangesText a b (SaidPart bytes)
-says_none_of None b bytes same = same
-says_none_of (Some a) None bytes same = absurd cc
-says_none_of (Some a) (Some b) bytes same = let is : b ≡ a = cc in (0, is ∙ sym (append-nil a))
-
--- the trace of a run that was played is left
-pub leaves_all : (r : Reading) (image : Loaded) (l : Result Loaded Status) (old new : Outside) (player : Player) (events : List Event) (tail : List TailLine) → l ≡ Ok image
-    → IsReached (setup_of image r.settings) (names_played (setup_of image r.settings) r.order) player → events ≡ player.run.events.events
-    → tail ≡ tail_of (setup_of image r.settings) (reach (setup_of image r.settings) (names_played (setup_of image r.settings) r.order))
-    → Writes old new r.trace (Becomes (whole_text r.settings events tail)) → new.said ≡ old.said → Leaves (outcome_of l r) old new
-leaves_all r image l old new player events tail is done same_events same_tail writes said =
-    let setup = setup_of image r.settings in
-    let Of : Result Loaded Status → Type 0 = λ x. Leaves (outcome_of x r) old new in
-    let Text : List ℕ → Type 0 = λ t. Writes old new r.trace (Becomes t) in
-    subst Of (sym is) (record {
-      said = says_nothing old.said new.said (console (journal_of setup r.order)) said (run_quiet setup r.order);
-      file = subst Text (sym (trace_is setup r.order player events tail done same_events same_tail)) writes;
-    })
-
--- or the beginning of it
-pub leaves_part : (r : Reading) (image : Loaded) (l : Result Loaded Status) (old new : Outside) (player : Player) (events : List Event) (tail : List TailLine) → l ≡ Ok image
-    → IsReached (setup_of image r.settings) (names_played (setup_of image r.settings) r.order) player → events ≡ player.run.events.events
-    → tail ≡ tail_of (setup_of image r.settings) (reach (setup_of image r.settings) (names_played (setup_of image r.settings) r.order))
-    → Writes old new r.trace (BecomesPart (whole_text r.settings events tail)) → new.said ≡ old.said → LeavesPart (outcome_of l r) old new
-leaves_part r image l old new player events tail is done same_events same_tail writes said =
-    let setup = setup_of image r.settings in
-    let Of : Result Loaded Status → Type 0 = λ x. LeavesPart (outcome_of x r) old new in
-    let Text : List ℕ → Type 0 = λ t. Writes old new r.trace (BecomesPart t) in
-    subst Of (sym is) (record {
-      said = says_none_of old.said new.said (console (journal_of setup r.order)) said;
-      file = subst Text (sym (trace_is setup r.order player events tail done same_events same_tail)) writes;
-    })
-
--- the answer of an image's run
-pub answer_is : (image : Loaded) (l : Result Loaded Status) (settings : Settings) (order : List ℕ) (stuck : Option ℕ) → l ≡ Ok image
-    → first_unbuilt (setup_of image settings) (begin (setup_of image settings)) (names_played (setup_of image settings) order) ≡ stuck → answer_of l settings order ≡ answer_of_run stuck
-answer_is image l settings order stuck is comes = ap (λ (x : Result Loaded Status). answer_of x settings order) is ∙ ap answer_of_run comes
+-- What the player leaves is the outcome of its run.
+pub outcome_is : (r : Reading) (setup : Setup) (player : Player) (bytes : List ℕ) (events : List Event) (tail : List TailLine)
+    → IsAt setup (reach setup (names_played setup r.order)) player → bytes ≡ sent_bytes (reach setup (names_played setup r.order)).devices
+    → events ≡ player.run.events.events → tail ≡ tail_of setup (reach setup (names_played setup r.order))
+    → outcome_with bytes r.trace (whole_text (settings_of setup) events tail) ≡ outcome_of_run r setup
+outcome_is r setup player bytes events tail at sent same_events same_tail =
+    let text = whole_text (settings_of setup) events tail in
+    ap (λ (said : List ℕ). outcome_with said r.trace text) (sent ∙ sym (console_is setup r.order))
+    ∙ ap (λ (t : List ℕ). outcome_with (console (journal_of setup r.order)) r.trace t) (sym (trace_is setup r.order player events tail at same_events same_tail))

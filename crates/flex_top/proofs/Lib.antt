@@ -1,5 +1,7 @@
 pub mod Images
 pub mod Doing
+pub mod Leaving
+pub mod Taking
 pub mod Told
 pub mod WordsLemmas
 pub mod Pages

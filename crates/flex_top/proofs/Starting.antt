@@ -1,5 +1,5 @@
 -- The player at its start stands for the beginning of the machine.
-use Rattle.std.proofs.Common.{◌≡◌, ℕ, ◌<◌, ◌≤◌, true, [], length, get_or, refl, ap, sym, subst, ◌∙◌, arith}
+use Rattle.std.proofs.Common.{◌≡◌, ℕ, ◌*◌, ◌<◌, ◌≤◌, true, List, [], length, get_or, refl, ap, sym, subst, ◌∙◌, arith}
 use Rattle.std.proofs.lemmas.Bool.Decides.{nat_tests}
 use Rattle.std.proofs.lemmas.List.FromFn.{length-map-range_with_len}
 use Rattle.flex_base.specs.Loaded.{Loaded, image_fits}
@@ -11,14 +11,13 @@ use Rattle.flex_base.specs.Unsplit.{Instruction, instruction_from, begin}
 use Rattle.transplant_plan.specs.Split.{Splitting}
 use Rattle.flex_base.specs.declared.class.Class.TheVariants as class
 use Rattle.flex_base.specs.declared.settings.Settings.{Settings}
-use Rattle.hart_story.specs.Progress.{IsIn, IsSoundProgress, begun, node, is_done}
+use Rattle.hart_story.specs.Progress.{IsIn, IsSoundProgress, begun, node}
 use Rattle.hart_story.specs.declared.hart.Hart.{Hart}
 use Rattle.hart_story.specs.declared.progress.Progress.{Progress}
-use Rattle.mem_lines.specs.Bank.{Bank}
 use Rattle.flex_base.proofs.Beginning.{begins_fit}
-use Rattle.flex_base.proofs.Machines.{instruction_at-begin}
+use Rattle.flex_base.proofs.Machines.{reach-none, instruction_at-begin}
 use Rattle.flex_top.specs.Answer.{setup_of}
-use Rattle.flex_top.specs.Memory.{Keeps, Serves}
+use Rattle.flex_top.specs.Memory.{Serves}
 use Rattle.flex_top.specs.declared.memory.Memory.{Memory}
 use Rattle.flex_top.specs.Play.{IsHart, IsAt, IsStarted, progress_at, layout_of}
 use Rattle.flex_top.specs.declared.player.Player.{Player}
@@ -36,16 +35,15 @@ lawful_whole settings lawful = grind (arith, nat_tests)
 pub entry_aligned : (ram : ℕ) (image : Loaded) → image_fits ram image ≡ true → is_multiple image.entry 4 ≡ true
 entry_aligned ram image fits = grind (arith, nat_tests)
 
-pub starts : (image : Loaded) (settings : Settings) (player : Player) (bank : Bank) → is_lawful settings ≡ true
-    → IsStarted player settings image.entry bank
+pub starts : (image : Loaded) (input : List ℕ) (settings : Settings) (player : Player) (memory : Memory) → is_lawful settings ≡ true
+    → settings.harts * settings.budget ≤ 262144
+    → IsStarted player settings image.entry memory
     → is_multiple image.entry 4 ≡ true
-    → Keeps (setup_of image settings) [] bank
-    → IsAt (setup_of image settings) (begin (setup_of image settings)) player
-starts image settings player bank lawful begins aligned keeps =
-    let setup = setup_of image settings in
+    → Serves (setup_of image input settings) [] [] memory
+    → IsAt (setup_of image input settings) (begin (setup_of image input settings)) player
+starts image input settings player memory lawful ends begins aligned serves =
+    let setup = setup_of image input settings in
     let Served : Memory → Type 0 = λ m. Serves setup [] [] m in
-    let first : Memory = record { lines = bank; time = 0 } in
-    let serves : Serves setup [] [] first = record { ram = keeps; time = refl } in
     let each = λ (h : ℕ) (other : Hart) (below : h < setup.harts).
     let hart = get_or player.harts.items h other in
     let Sound : Progress → Type 0 = λ p. IsSoundProgress (layout_of settings) hart p in
@@ -57,13 +55,14 @@ starts image settings player bank lawful begins aligned keeps =
       reached = ap (node setup (start h image.entry)) (sym (begins.progress.1 h));
       sound = subst Sound (sym (begins.progress.1 h)) sound;
     } in
-    let AtHalf : Instruction → Type 0 = λ x. IsIn setup x hart (progress_at player h) (layout_of settings) settings.budget in
-    let in_story = subst AtHalf (sym (instruction_at-begin setup h below)) there in
-    let first : IsHart setup (begin setup) h hart (progress_at player h) = record { in_story = in_story; spent = sym (ap is_done (begins.progress.1 h)) } in
-    first in
+    let At : Instruction → Type 0 = λ x. IsIn setup x hart (progress_at player h) (layout_of settings) settings.budget in
+    let in_story : IsHart setup (begin setup) h hart (progress_at player h) = subst At (sym (instruction_at-begin setup h below)) there in
+    in_story in
     record {
       some = lawful_some settings lawful;
       few = lawful_few settings lawful;
+      ends = ends;
+      reached = record { order = []; is = sym (reach-none setup (begin setup)) };
       settings = begins.settings_is;
       halves = length-map-range_with_len (λ h. instruction_from (start h image.entry)) 0 setup.harts;
       harts = begins.harts.size;
@@ -71,5 +70,5 @@ starts image settings player bank lawful begins aligned keeps =
       engines = ap (λ (p : Splitting). length p.engines) begins.run ∙ length-map-range_with_len (λ h. default_plan h class.Fetch) 0 settings.harts;
       each = each;
       run = split_none default_plan setup.harts ∙ sym begins.run;
-      memory = subst Served (sym begins.memory) serves;
+      memory = subst Served (sym begins.memory_is) serves;
     }

@@ -1,6 +1,11 @@
 -- What has no reading, by how many words there are, and which hart a character names.
-use Rattle.std.proofs.Common.{◌≡◌, ◌==◌, ℕ, ◌+◌, ◌-◌, ◌<◌, ◌≤◌, Bool, true, false, List, [], ◌∷◌, ◌++◌, length, None, Some, refl, ap, ◌∙◌, append-nil, arith}
-use Rattle.std.specs.List.{list_all, range_with_len, cons_option}
+use Rattle.std.proofs.Common.{◌≡◌, ◌==◌, ℕ, ◌+◌, ◌-◌, ◌<◌, ◌≤◌, Bool, true, false, List, [], ◌∷◌, ◌++◌, length, Option, None, Some, ◌⊎◌, inl, inr, drop, refl, ap, sym, ◌∙◌, append-nil, arith}
+use Rattle.std.specs.Prelude.{MatchOption, nat_eq, option_map, if◌then◌else◌}
+use Rattle.std.specs.List.{list_all, range_with_len, cons_option, starts_with}
+use Rattle.std.specs.Str.Pattern.{FindsTextPrefix}
+use Rattle.std.proofs.lemmas.Bool.{cases_Bool}
+use Rattle.std.proofs.lemmas.Bool.Decides.{Decides-eqb}
+use Rattle.std.proofs.lemmas.Slice.Eq.{starts_is}
 use Rattle.std.proofs.lemmas.Bool.{eqb-true}
 use Rattle.std.proofs.lemmas.List.Folds.{list_all_at}
 use Rattle.std.proofs.lemmas.List.FromFn.{length-range_with_len, get_or-range_with_len}
@@ -69,3 +74,17 @@ values_none name words word e = filter_map-append (value_of name) words (word �
 
 pub values_some : (name : List ℕ) (words : List (List ℕ)) (word value : List ℕ) → value_of name word ≡ Some value → values name (words ++ word ∷ []) ≡ values name words ++ value ∷ []
 values_some name words word value e = filter_map-append (value_of name) words (word ∷ []) ∙ ap (λ v. values name words ++ cons_option v []) e
+
+-- The value of an option.
+
+-- what is left of a word whose front is the option's name
+pub stripped : {T : Type 0} (now : T → List ℕ) (r : Option T) (name word : List ℕ)
+    → MatchOption r (FindsTextPrefix name word None) (λ x. (n : ℕ) × FindsTextPrefix name word (Some n) × (now x ≡ drop n word) × (length (now x) + n ≡ length word))
+    → option_map now r ≡ value_of name word
+stripped now None name word lacks = elim (cases_Bool (starts_with nat_eq word name)) [
+  | inl begins ↦ absurd (lacks _ ((starts_is Decides-eqb word name _ refl).0 begins))
+  | inr other ↦ sym (ap (λ b. if b then Some (drop (length name) word) else None) other)
+]
+stripped now (Some x) name word (n, found, rest, size) =
+    let begins = (starts_is Decides-eqb word name _ refl).1 _ found.1 in
+    ap Some (rest ∙ ap (λ k. drop k word) found.0) ∙ sym (ap (λ b. if b then Some (drop (length name) word) else None) begins)

@@ -1,8 +1,9 @@
 -- The text that is written is the trace of the run that was played, and what is known of each run.
-use Rattle.std.proofs.Common.{◌≡◌, ℕ, ◌+◌, List, [], map, refl, ap, sym, ◌∙◌}
+use Rattle.std.proofs.Common.{◌≡◌, ℕ, ◌+◌, ◌<◌, List, [], map, refl, ap, sym, ◌∙◌}
 use Rattle.std.specs.List.{range_with_len}
 use Rattle.flex_base.specs.Place.{ram_base}
 use Rattle.flex_base.specs.Setup.{Setup}
+use Rattle.flex_base.specs.Devices.{sent_bytes}
 use Rattle.flex_base.specs.FlatMemory.{byte}
 use Rattle.transplant_plan.specs.Assignment.{default_plan}
 use Rattle.flex_base.specs.Unsplit.{Machine, reach, has_ended}
@@ -13,9 +14,9 @@ use Rattle.flex_base.specs.declared.event.Event.{Event}
 use Rattle.transplant_plan.proofs.Splits.{reach-order_of, split_legal}
 use Rattle.transplant_plan.proofs.Obeying.{split_obeys}
 use Rattle.flex_base.proofs.EndOfRun.{run_goes_on}
-use Rattle.transplant_plan.proofs.Splits.{console_quiet}
-use Rattle.flex_top.specs.Answer.{journal_of, trace_of, EndsWhole}
-use Rattle.flex_top.specs.Play.{IsReached}
+use Rattle.transplant_plan.proofs.Splits.{console_devices}
+use Rattle.flex_top.specs.Answer.{journal_of, trace_of, IsWhole}
+use Rattle.flex_top.specs.Play.{IsAt}
 use Rattle.tracer.specs.Trace.{settings_of, ram_bytes, tail_of, whole_text, trace_text}
 use Rattle.flex_top.specs.declared.player.Player.{Player}
 use Rattle.tracer.specs.declared.tail_text.TailLine.{TailLine}
@@ -30,27 +31,25 @@ unfolding ram_bytes
 ram_is setup u bytes same = same
 
 -- the trace of a run, by what the player keeps
-pub trace_is : (setup : Setup) (order : List ℕ) (player : Player) (events : List Event) (tail : List TailLine) → IsReached setup (names_played setup order) player
+pub trace_is : (setup : Setup) (order : List ℕ) (player : Player) (events : List Event) (tail : List TailLine) → IsAt setup (reach setup (names_played setup order)) player
     → events ≡ player.run.events.events → tail ≡ tail_of setup (reach setup (names_played setup order))
     → trace_of setup order ≡ whole_text (settings_of setup) events tail
 unfolding trace_of trace_text journal_of
-trace_is setup order player events tail done same_events same_tail =
+trace_is setup order player events tail at same_events same_tail =
     ap (λ m. whole_text (settings_of setup) (journal_of setup order) (tail_of setup m)) (reach-order_of setup default_plan (names_played setup order))
     ∙ ap (whole_text (settings_of setup) (journal_of setup order)) (sym same_tail)
-    ∙ ap (λ es. whole_text (settings_of setup) es tail) (ap (λ (p : Splitting). p.events) done.at.run ∙ sym same_events)
+    ∙ ap (λ es. whole_text (settings_of setup) es tail) (ap (λ (p : Splitting). p.events) at.run ∙ sym same_events)
 
--- a run of which all is built is whole
-pub built_whole : (setup : Setup) (order : List ℕ) → EndsWhole setup order
+-- its console bytes are those that the devices have sent
+pub console_is : (setup : Setup) (order : List ℕ) → console (journal_of setup order) ≡ sent_bytes (reach setup (names_played setup order)).devices
 unfolding journal_of
-built_whole setup order = record {
-  whole = λ built. record {
-    legal = split_legal setup default_plan (names_played setup order);
-    obeys = split_obeys setup default_plan (names_played setup order);
-    ended = ap (has_ended setup) (reach-order_of setup default_plan (names_played setup order)) ∙ (run_goes_on setup order).ends built;
-  };
+console_is setup order = console_devices setup default_plan (names_played setup order)
+
+-- each run with a hart is whole
+pub run_whole : (setup : Setup) (order : List ℕ) → 0 < setup.harts → IsWhole setup order
+unfolding journal_of
+run_whole setup order some = record {
+  legal = split_legal setup default_plan (names_played setup order);
+  obeys = split_obeys setup default_plan (names_played setup order);
+  ended = ap (has_ended setup) (reach-order_of setup default_plan (names_played setup order)) ∙ (run_goes_on setup order some).ends;
 }
-
--- no run sends anything to the console so far
-pub run_quiet : (setup : Setup) (order : List ℕ) → console (journal_of setup order) ≡ []
-unfolding journal_of
-run_quiet setup order = console_quiet setup default_plan (names_played setup order)

@@ -1,12 +1,11 @@
 -- What `solo` answers, and what it leaves.
-use Rattle.std.specs.Prelude.{◌≡◌, ℕ, true, if◌then◌else◌, nat_lt, List, [], length, Option, None, Some, Result, Ok, Err}
+use Rattle.std.specs.Prelude.{◌≡◌, ℕ, ◌<◌, true, if◌then◌else◌, nat_lt, List, [], length, Option, None, Some, Result, Ok, Err}
 use Rattle.flex_base.specs.Loaded.{Loaded}
 use Rattle.flex_base.specs.Setup.{Setup}
 use Rattle.flex_base.specs.Files.{Files}
 use Rattle.transplant_plan.specs.Assignment.{default_plan}
-use Rattle.flex_base.specs.Unsplit.{begin, unsplit, reach, has_ended}
+use Rattle.flex_base.specs.Unsplit.{unsplit, reach, has_ended}
 use Rattle.flex_base.specs.Rounds.{names_played}
-use Rattle.flex_base.specs.Built.{first_unbuilt}
 use Rattle.transplant_plan.specs.Split.{split, Obeys}
 use Rattle.flex_base.specs.Journal.{IsLegal, order_of, console}
 use Rattle.flex_base.specs.declared.event.Event.{Event}
@@ -18,6 +17,22 @@ use Rattle.tracer.specs.Trace.{trace_text}
 use Rattle.flex_top.specs.Words.{Reading}
 use Rattle.flex_top.specs.declared.status.Status.{Status}
 use Rattle.flex_top.specs.declared.status.Status.TheVariants as status
+
+-- Files.
+
+-- the files that are read, each where there is one
+pub record Sources : Type 0 where
+  pub image : Option (List ℕ)
+  pub input : Option (List ℕ)
+
+-- the file of a name, and an empty one where none is named
+abbrev pub file_among : Option (List ℕ) → Files → Option (List ℕ)
+file_among None files = Some []
+file_among (Some name) files = files name
+
+-- those that the words name
+abbrev pub sources_among : Reading → Files → Sources
+sources_among r files = record { image = files r.image; input = file_among r.input files }
 
 -- Images.
 
@@ -34,18 +49,35 @@ image_in file ram = or_refusal (loaded file ram)
 abbrev pub image_limit : ℕ
 image_limit = 268435456
 
--- the image of the file of a name, if there is one
+-- the image of a file, if there is one
 abbrev pub image_from : Option (List ℕ) → ℕ → Result Loaded Status
 image_from None ram = Err status.ReadFault
 image_from (Some file) ram =
     if nat_lt image_limit (length file) then Err (status.ImageRefused (fault.TooLong (length file)))
     else image_in file ram
 
+-- The console's input.
+
+-- it has at most 1 MiB
+abbrev pub input_limit : ℕ
+input_limit = 1048576
+
+-- the input that a file is, if there is one, or the refusal of it
+abbrev pub input_from : Option (List ℕ) → Result (List ℕ) Status
+input_from None = Err status.ReadFault
+input_from (Some file) = if nat_lt input_limit (length file) then Err (status.InputTooLong (length file)) else Ok file
+
 -- Runs.
 
--- a run of an image with these settings
-abbrev pub setup_of : Loaded → Settings → Setup
-setup_of image settings = record { image = image; harts = settings.harts; ram = settings.ram; budget = settings.budget }
+-- a run of an image and this input with these settings
+abbrev pub setup_of : Loaded → List ℕ → Settings → Setup
+setup_of image input settings = record {
+  image = image;
+  harts = settings.harts;
+  ram = settings.ram;
+  budget = settings.budget;
+  input = input;
+}
 
 -- the journal of the run: what the unsplit machine does in the order and then in the rounds, split by the default plan
 unfoldable pub journal_of : Setup → List ℕ → List Event
@@ -60,29 +92,17 @@ pub record IsWhole (setup : Setup) (order : List ℕ) : Type 0 where
   pub obeys : Obeys default_plan (journal_of setup order)
   pub ended : has_ended setup (reach setup (order_of (journal_of setup order))) ≡ true
 
--- a run of which all is built is whole
-pub record EndsWhole (setup : Setup) (order : List ℕ) : Type 0 where
-  pub whole : first_unbuilt setup (begin setup) (names_played setup order) ≡ None → IsWhole setup order
-
 -- Answers.
 
--- a run that comes to what isn't built isn't written
-abbrev pub answer_of_run : Option ℕ → Status
-answer_of_run None = status.Ended
-answer_of_run (Some pc) = status.Unbuilt pc
-
--- the run takes the harts in this order, and then in rounds
-abbrev pub answer_of_setup : Setup → List ℕ → Status
-answer_of_setup setup order = answer_of_run (first_unbuilt setup (begin setup) (names_played setup order))
-
--- the refusal of the image, or the answer of the run
-abbrev pub answer_of : Result Loaded Status → Settings → List ℕ → Status
-answer_of (Err refusal) settings order = refusal
-answer_of (Ok image) settings order = answer_of_setup (setup_of image settings) order
+-- the first refusal, of the image and then of the input; where there is none, the run ends
+abbrev pub answer_of : Result Loaded Status → Result (List ℕ) Status → Status
+answer_of (Err refusal) input = refusal
+answer_of (Ok image) (Err refusal) = refusal
+answer_of (Ok image) (Ok input) = status.Ended
 
 -- the answer that the words and the files determine
-abbrev pub expected : Reading → Files → Status
-expected r files = answer_of (image_from (files r.image) r.settings.ram) r.settings r.order
+abbrev pub expected : Reading → Sources → Status
+expected r files = answer_of (image_from files.image r.settings.ram) (input_from files.input)
 
 -- What is left.
 
@@ -91,14 +111,18 @@ pub record Outcome : Type 0 where
   pub said : List ℕ
   pub file : Option (List ℕ × List ℕ)
 
--- nothing where the image is refused; else the console bytes of the run, and its trace
-abbrev pub outcome_of : Result Loaded Status → Reading → Outcome
-outcome_of (Err refusal) r = record { said = []; file = None }
-outcome_of (Ok image) r = record {
-  said = console (journal_of (setup_of image r.settings) r.order);
-  file = Some (r.trace, trace_of (setup_of image r.settings) r.order);
-}
+abbrev pub outcome_with : List ℕ → List ℕ → List ℕ → Outcome
+outcome_with said name text = record { said = said; file = Some (name, text) }
+
+-- the console bytes of a run, and its trace
+abbrev pub outcome_of_run : Reading → Setup → Outcome
+outcome_of_run r setup = outcome_with (console (journal_of setup r.order)) r.trace (trace_of setup r.order)
+
+-- those of the run of an image and an input; nothing where one of them is refused
+abbrev pub outcome_of : Reading → Result Loaded Status → Result (List ℕ) Status → Outcome
+outcome_of r (Ok image) (Ok input) = outcome_of_run r (setup_of image input r.settings)
+outcome_of r image input = record { said = []; file = None }
 
 -- what the words and the files determine to be left
-abbrev pub outcome : Reading → Files → Outcome
-outcome r files = outcome_of (image_from (files r.image) r.settings.ram) r
+abbrev pub outcome : Reading → Sources → Outcome
+outcome r files = outcome_of r (image_from files.image r.settings.ram) (input_from files.input)

@@ -1,9 +1,9 @@
 -- What a command does: its answer, and what it leaves outside.
 use Rattle.std.specs.Prelude.{◌≡◌, ◌≢◌, ℕ, ◌-◌, ◌^◌, ◌<◌, ◌⊎◌, List, Option, None, Some, IfSome}
-use Rattle.flex_base.specs.Files.{Files, Counts, Said, SaidPart}
+use Rattle.flex_base.specs.Files.{Counts, Said, SaidPart}
 use Rattle.flex_base.specs.Outside.{Outside, Writes, Says}
 use Rattle.flex_top.specs.Words.{Reading}
-use Rattle.flex_top.specs.Answer.{Outcome, expected, outcome, image_limit}
+use Rattle.flex_top.specs.Answer.{Sources, sources_among, Outcome, expected, outcome, image_limit, input_limit}
 use Rattle.flex_top.specs.Written.{Becomes, BecomesPart}
 use Rattle.flex_top.specs.declared.status.Status.{Status}
 use Rattle.flex_top.specs.declared.status.Status.TheVariants as status
@@ -42,30 +42,44 @@ pub record Leaves (o : Outcome) (old new : Outside) : Type 0 where
   pub said : Says old new (Said o.said)
   pub file : WritesAll old new o.file
 
--- the beginning of the outcome is left
-pub record LeavesPart (o : Outcome) (old new : Outside) : Type 0 where
+-- a write failed while the bytes were said: the first of them are, and no file is touched
+pub record BreaksSaying (o : Outcome) (old new : Outside) : Type 0 where
   pub said : Says old new (SaidPart o.said)
+  pub written : new.written ≡ old.written
+
+-- or while the file was written: all bytes are said, and the file is as it was or the beginning of its text
+pub record BreaksWriting (o : Outcome) (old new : Outside) : Type 0 where
+  pub said : Says old new (Said o.said)
   pub file : WritesPart old new o.file
+
+-- the beginning of the outcome is left, of which the bytes come first
+abbrev pub LeavesPart : Outcome → Outside → Outside → Type 0
+LeavesPart o old new = BreaksSaying o old new ⊎ BreaksWriting o old new
+
+-- nothing is said or written
+pub record LeavesNothing (old new : Outside) : Type 0 where
+  pub said : new.said ≡ old.said
+  pub written : new.written ≡ old.written
 
 -- what `solo` does
 pub record Does (r : Reading) (old : Outside) (answer : Status) (new : Outside) : Type 0 where
   -- the files that it goes by, which are those that can be taken where these are told
-  pub files : Files
-  pub told : IfSome old.held (λ held. files ≡ held)
+  pub files : Sources
+  pub told : IfSome old.held (λ held. files ≡ sources_among r held)
   -- the answer that they lead to, and that it comes where the outside has no fault
-  pub answers : Answers (files r.image) (expected r files) answer
+  pub answers : Answers files.image (expected r files) answer
   pub completes : expected r files ≡ status.Ended → IsCalm old.read_faults new.read_faults
       → IsCalm old.write_faults new.write_faults → IsEnded answer
   -- what is left of their outcome once it has ended, and where a write failed
   pub ended : answer ≡ status.Ended → Leaves (outcome r files) old new
   pub cut : answer ≡ status.WriteFault → LeavesPart (outcome r files) old new
-  -- else nothing is written, never another file; nothing is said so far; files that can be taken stay
-  pub nothing : answer ≢ status.Ended → answer ≢ status.WriteFault → new.written ≡ old.written
+  -- else nothing is left; never is another file written; files that can be taken stay
+  pub nothing : answer ≢ status.Ended → answer ≢ status.WriteFault → LeavesNothing old new
   pub others : Writes old new r.trace (λ was is. Unit {0})
-  pub said : new.said ≡ old.said
   pub held : new.held ≡ old.held
   -- a file that is too long is so
-  pub too_long : (n : ℕ) → answer ≡ status.ImageRefused (image.TooLong n) → image_limit < n
+  pub long_image : (n : ℕ) → answer ≡ status.ImageRefused (image.TooLong n) → image_limit < n
+  pub long_input : (n : ℕ) → answer ≡ status.InputTooLong n → input_limit < n
 
 -- each fault of the outside is answered exactly where its count rose
 pub record TellsFaults (old : Outside) (answer : Status) (new : Outside) : Type 0 where

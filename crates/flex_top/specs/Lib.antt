@@ -7,4 +7,5 @@ pub mod Status
 pub mod Answer
 pub mod Does
 pub mod Images
+pub mod Taking
 pub mod Ready

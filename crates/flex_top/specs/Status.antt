@@ -12,7 +12,7 @@ status_code status.ReadFault = 2
 status_code (status.ImageRefused fault) = 3
 status_code status.OutOfMemory = 5
 status_code status.WriteFault = 6
-status_code (status.Unbuilt pc) = 10
+status_code (status.InputTooLong n) = 7
 
 -- the refusal of an image, by its fault's number
 abbrev pub refusal : ImageFault → List ℕ
@@ -26,7 +26,7 @@ meaning status.ReadFault = codes "read fault"
 meaning (status.ImageRefused fault) = refusal fault
 meaning status.OutOfMemory = codes "out of memory"
 meaning status.WriteFault = codes "write fault"
-meaning (status.Unbuilt pc) = codes "unbuilt"
+meaning (status.InputTooLong n) = codes "input too long " ++ decimal n
 
 abbrev pub is_ended : Status → Bool
 is_ended status.Ended = true

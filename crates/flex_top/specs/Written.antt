@@ -1,6 +1,13 @@
--- A text written to a file in pieces.
+-- What a command leaves outside, and a text written to a file in pieces.
 use Rattle.std.specs.Prelude.{◌≡◌, ℕ, ◌⊎◌, List, [], ◌++◌, take, Option, Some, unwrap_or}
+use Rattle.flex_base.specs.Files.{Counts}
 use Rattle.flex_base.specs.Outside.{Outside, Writes}
+
+-- nothing changed but the bytes said, written files and the count of write faults, which rose where the call fails
+pub record OnlyLeaves (old new : Outside) (Fails : Type 0) : Type 0 where
+  pub cause : Counts old.write_faults new.write_faults Fails
+  pub read_faults : new.read_faults ≡ old.read_faults
+  pub held : new.held ≡ old.held
 
 -- the file gained these bytes; one that gained none may be as it was
 abbrev pub Gains : List ℕ → Option (List ℕ) → Option (List ℕ) → Type 0

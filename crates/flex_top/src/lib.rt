@@ -1,15 +1,18 @@
 //! The commands but `run`: the words, the image, a run on one thread, the trace text and its file.
 //!
 //! `flex_top` does what the words ask for, and tells by its status what came of it. `solo` plays
-//! the harts over an image, in a given order and then in rounds, and writes the trace of the run.
+//! the harts over an image, in a given order and then in rounds, says what the run sent to the
+//! console, and writes the trace of the run.
 #![tactic(auto)]
 
 mod image;
+mod leaving;
 mod memory;
 mod pieces;
 mod player;
 mod prepared;
 mod solo;
+mod sources;
 mod split_run;
 mod status;
 mod top;

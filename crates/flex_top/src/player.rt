@@ -1,16 +1,12 @@
-ghost use Rattle.std.specs.Prelude.{◌≡◌, ◌++◌, ◌<◌, ◌≤◌, ◌^◌, List, ℕ, length, IfOk};
-ghost use Rattle.std.specs.List.{list_all};
+ghost use Rattle.std.specs.Prelude.{◌≡◌, ◌++◌, ◌<◌, List, ℕ, length, IfOk, OnOk};
 ghost use Rattle.flex_base.specs.Setup.{Setup};
-ghost use Rattle.flex_base.specs.Unsplit.{Machine, begin, hart_numbers};
-ghost use Rattle.hart_story.specs.Progress.{is_done};
+ghost use Rattle.flex_base.specs.Unsplit.{Machine, begin, reach, hart_numbers};
 ghost use Rattle.flex_top.specs.Play.{AreStarted};
-ghost use Rattle.flex_top.specs.declared.player.Stuck.TheVariants as stuck;
 
 use crate::memory::Memory;
 use crate::split_run::SplitRun;
-use flex_base::{HartId, Layout, Settings, Stop};
+use flex_base::{Access, Class, HartId, Layout, Settings, Stop};
 use hart_story::{Hart, Need, Progress, finish, give, need};
-use mem_lines::Lines;
 use std::alloc::{AllocError, Global};
 use tracer::Tail;
 
@@ -33,42 +29,29 @@ pub(crate) enum Step {
     Accessed,
     /// An instruction ended.
     Ended,
-    /// The hart has nothing left to do.
-    Over,
-}
-
-/// Why a run stopped before its end.
-#[derive(Clone, Copy)]
-pub(crate) enum Stuck {
-    OutOfMemory,
-    /// The next event, of a hart with this `pc`, isn't built.
-    Unbuilt(u64),
-}
-
-impl From<AllocError> for Stuck {
-    ghost from_gives = { λ _ s. s ≡ stuck.OutOfMemory };
-
-    fn from(_error: AllocError) -> Stuck {
-        Stuck::OutOfMemory
-    }
+    /// The hart has no next event: it is over, or waits unwoken.
+    Rested,
 }
 
 impl Player {
-    ghost use Rattle.flex_base.specs.DevicesSoFar.{stop_of};
-    ghost use Rattle.flex_base.specs.Rounds.{turn_of, names_played};
-    ghost use Rattle.flex_base.specs.Built.{unbuilt_at, first_unbuilt};
-    ghost use Rattle.std.specs.Prelude.{Some};
+    ghost use Rattle.flex_base.specs.Devices.{device_stop, sent_bytes};
+    ghost use Rattle.flex_base.specs.Classes.{class_of_access};
+    ghost use Rattle.flex_base.specs.Forms.{IsPlaced};
+    ghost use Rattle.flex_base.specs.StoryTree.{Asks};
+    ghost use Rattle.flex_base.specs.Unsplit.{want_of, next_of, is_idle, has_ended, step, reach_from};
+    ghost use Rattle.flex_base.specs.Rounds.{turn_of, most_rounds, names_played};
     ghost use Rattle.tracer.specs.Trace.{tail_of};
-    ghost use Rattle.flex_top.specs.Play.{Comes, IsAt, IsStarted, AfterStep, IsStepped, IsStuck, IsTurned, IsNearer, Playing, IsReached};
+    ghost use Rattle.flex_top.specs.Play.{IsAt, IsStarted, AfterStep, IsTurned, IsNearer, Playing, TellsIdle, progress_at, layout_of};
+    ghost use Rattle.hart_story.specs.Progress.{left};
 
-    // The harts at their start, at this entry, over this RAM.
+    // The harts at their start, at this entry, over this memory.
     pub(crate) fn start(
         alloc: Global,
         settings: &Settings,
         entry: u64,
-        lines: Lines,
+        memory: Memory,
     ) -> Result<Player, AllocError>
-        ensures { IfOk result (λ player. IsStarted player settings.now entry lines) }
+        ensures { IfOk result (λ player. IsStarted player settings.now entry memory) }
     {
         let harts = first_harts(alloc, settings.harts, entry)?;
         let begun = Progress::begin();
@@ -78,25 +61,35 @@ impl Player {
             settings: *settings,
             harts,
             progress,
-            memory: Memory { lines, time: 0 },
+            memory,
             run,
         })
     }
 
-    // Plays the order, of hart numbers, and then the rounds until the run has ended. Each round
-    // ends an instruction of each hart that has ends left, and one more lets the last harts retire.
-    pub(crate) fn play(&mut self, order: &[u8]) -> Result<(), Stuck>
-        requires few { self.old.settings.budget < 2 ^ 32 }
+    // Plays the order, of hart numbers, and then the rounds until the run has ended. Each round of a
+    // run that goes on has an event, so the events that there can be bound the rounds.
+    pub(crate) fn play(&mut self, order: &[u8]) -> Result<(), AllocError>
         requires at { (setup : Setup) × IsAt setup (begin setup) self.old }
-        ensures { (setup : Setup) → IsAt setup (begin setup) self.old → Comes result
-            (λ done. IsReached setup (names_played setup order.now) self.new)
-            (λ pc. first_unbuilt setup (begin setup) (names_played setup order.now) ≡ Some pc) }
+        ensures { (setup : Setup) → IsAt setup (begin setup) self.old
+            → OnOk result (IsAt setup (reach setup (names_played setup order.now)) self.new) }
     {
         self.follow(order)?;
-        'rounds: for _ in 0..self.settings.budget + 1 {
+        'rounds: for _ in 0..self.most_rounds() {
+            if self.has_ended() {
+                return Ok(());
+            }
             self.round()?;
         }
         Ok(())
+    }
+
+    // As many rounds as there can be events: 10 for each end that a hart may make, and its retirement.
+    fn most_rounds(&self) -> u64
+        requires { (setup : Setup) × (u : Machine) × IsAt setup u self.now }
+        ensures { (setup : Setup) (u : Machine) → IsAt setup u self.now → result ≡ most_rounds setup }
+    {
+        let harts = u64::from(self.settings.harts);
+        10 * (harts * self.settings.budget) + harts
     }
 
     // Makes these the lines of the trace after the events so far.
@@ -107,23 +100,57 @@ impl Player {
         tail.fill(self.stop(), &self.harts, self.memory.lines.bytes());
     }
 
-    // Why the run has ended, where it has.
-    fn stop(&self) -> Option<Stop>
-        ensures { (setup : Setup) (u : Machine) → IsAt setup u self.now → result ≡ stop_of setup.harts u.devices }
+    // The bytes that were sent to the console.
+    pub(crate) fn console(&self) -> &[u8]
+        ensures { (setup : Setup) (u : Machine) → IsAt setup u self.now → result.now ≡ sent_bytes u.devices }
     {
-        if all_done(&self.progress) {
-            Some(Stop::Budget)
-        } else {
-            None
+        self.memory.devices.console()
+    }
+
+    // Why the run stops, once a stop stands.
+    fn stop(&self) -> Option<Stop>
+        ensures { (setup : Setup) (u : Machine) → IsAt setup u self.now → result ≡ device_stop setup.harts u.devices }
+    {
+        self.memory.devices.stop()
+    }
+
+    // A stop stands, and each hart is over or waits, woken or not.
+    #[inline(always)]
+    fn has_ended(&self) -> bool
+        requires { (setup : Setup) × (u : Machine) × IsAt setup u self.now }
+        ensures { (setup : Setup) (u : Machine) → IsAt setup u self.now → result ≡ has_ended setup u }
+    {
+        self.stop().is_some() && self.are_idle()
+    }
+
+    // Whether no hart goes on by itself.
+    #[cold]
+    fn are_idle(&self) -> bool
+        requires { (setup : Setup) × (u : Machine) × IsAt setup u self.now }
+        ensures { (setup : Setup) (u : Machine) → IsAt setup u self.now → TellsIdle setup u result }
+    {
+        for h in 0..self.harts.len() {
+            if !self.is_idle(h) {
+                return false;
+            }
         }
+        true
+    }
+
+    // Whether this hart is over or waits.
+    fn is_idle(&self, h: usize) -> bool
+        requires hart { h < length self.now.harts.items }
+        requires at { (setup : Setup) × (u : Machine) × IsAt setup u self.now }
+        ensures { (setup : Setup) (u : Machine) → IsAt setup u self.now → result ≡ is_idle (want_of setup u h) }
+    {
+        self.progress[h].is_over() || self.progress[h].is_parked()
     }
 
     // The harts make their next events in this order.
-    fn follow(&mut self, order: &[u8]) -> Result<(), Stuck>
+    fn follow(&mut self, order: &[u8]) -> Result<(), AllocError>
         requires at { (setup : Setup) × IsAt setup (begin setup) self.old }
-        ensures { (setup : Setup) → IsAt setup (begin setup) self.old → Comes result
-            (λ done. IsReached setup order.now self.new)
-            (λ pc. first_unbuilt setup (begin setup) order.now ≡ Some pc) }
+        ensures { (setup : Setup) → IsAt setup (begin setup) self.old
+            → OnOk result (IsAt setup (reach setup order.now) self.new) }
     {
         for h in order {
             self.next(*h)?;
@@ -132,10 +159,9 @@ impl Player {
     }
 
     // The hart of this number makes its next event. A number without a hart is passed over.
-    fn next(&mut self, h: u8) -> Result<(), Stuck>
+    fn next(&mut self, h: u8) -> Result<(), AllocError>
         requires at { (setup : Setup) × (u : Machine) × IsAt setup u self.old }
-        ensures { (setup : Setup) (u : Machine) → IsAt setup u self.old → Comes result
-            (λ done. IsStepped setup u h self.new) (λ pc. unbuilt_at setup u h ≡ Some pc) }
+        ensures { (setup : Setup) (u : Machine) → IsAt setup u self.old → OnOk result (IsAt setup (step setup u h) self.new) }
     {
         if (h as usize) < self.harts.len() {
             self.step(h as usize)?;
@@ -143,58 +169,53 @@ impl Player {
         Ok(())
     }
 
-    // Each hart makes its turn, in rising order.
-    fn round(&mut self) -> Result<(), Stuck>
+    // Each hart makes its turn, in rising order, unless the run has ended.
+    fn round(&mut self) -> Result<(), AllocError>
         requires { (setup : Setup) × (order : List ℕ) × (done : List ℕ) × (rest : List ℕ)
             × Playing setup order done (hart_numbers setup ++ rest) self.old }
         ensures { (setup : Setup) (order done rest : List ℕ)
-            → Playing setup order done (hart_numbers setup ++ rest) self.old → Comes result
-            (λ round. Playing setup order (done ++ hart_numbers setup) rest self.new)
-            (λ pc. first_unbuilt setup (begin setup) (names_played setup order) ≡ Some pc) }
+            → Playing setup order done (hart_numbers setup ++ rest) self.old
+            → OnOk result (Playing setup order (done ++ hart_numbers setup) rest self.new) }
     {
         for h in 0..self.harts.len() {
-            self.turn(h)?;
+            if !self.has_ended() {
+                self.turn(h)?;
+            }
         }
         Ok(())
     }
 
-    // Makes a hart's events up to and including its next end.
-    pub(crate) fn turn(&mut self, h: usize) -> Result<(), Stuck>
+    // Makes a hart's events up to and including its next end, or until it has none.
+    pub(crate) fn turn(&mut self, h: usize) -> Result<(), AllocError>
         requires hart { h < length self.old.harts.items }
         requires at { (setup : Setup) × (u : Machine) × IsAt setup u self.old }
-        ensures { (setup : Setup) (u : Machine) → IsAt setup u self.old → Comes result
-            (λ done. IsTurned setup u h self.new)
-            (λ pc. first_unbuilt setup u (turn_of setup u h) ≡ Some pc) }
+        ensures { (setup : Setup) (u : Machine) → IsAt setup u self.old → OnOk result (IsTurned setup u h self.new) }
     {
         'turn: loop {
             match self.step(h)? {
                 Step::Accessed => {}
                 Step::Ended => return Ok(()),
-                Step::Over => return Ok(()),
+                Step::Rested => return Ok(()),
             }
         }
     }
 
-    // Makes the next event of a hart, where there is one.
+    // Makes the next event of a hart, where there is one. A hart that waits makes a pulse, and only
+    // once the devices have woken it.
     #[inline(never)]
-    pub(crate) fn step(&mut self, h: usize) -> Result<Step, Stuck>
+    pub(crate) fn step(&mut self, h: usize) -> Result<Step, AllocError>
         requires hart { h < length self.old.harts.items }
         requires at { (setup : Setup) × (u : Machine) × IsAt setup u self.old }
-        ensures after { (setup : Setup) (u : Machine) → IsAt setup u self.old → Comes result
-            (λ came. AfterStep setup u h came self.new) (λ pc. IsStuck setup u h pc) }
+        ensures after { (setup : Setup) (u : Machine) → IsAt setup u self.old
+            → IfOk result (λ came. AfterStep setup u h came self.new) }
         ensures nearer { IfOk result (λ came. IsNearer h came self.old self.new) }
     {
         let hart = HartId(h as u8);
-        let layout = Layout {
-            harts: self.settings.harts,
-            ram: self.settings.ram,
-        };
+        let layout = self.layout();
         let budget = self.settings.budget;
         match need(&self.harts[h], &self.progress[h], &layout, budget) {
             Need::Ask(access, class) => {
-                let told = self.memory.act(hart, &access);
-                give(&self.harts[h], &mut self.progress[h], &layout, budget, told);
-                self.run.add_access(hart, class, access, told)?;
+                self.make_access(h, access, class)?;
                 Ok(Step::Accessed)
             }
             Need::Finish(class) => {
@@ -203,8 +224,44 @@ impl Player {
                 self.run.add_end(hart, class, part)?;
                 Ok(Step::Ended)
             }
-            Need::Over => Ok(Step::Over),
-            Need::Unbuilt => Err(Stuck::Unbuilt(self.harts[h].regs.pc)),
+            Need::Parked => {
+                if self.memory.devices.woken(hart) {
+                    self.make_access(h, Access::Pulse { tick: false }, Class::Pulse)?;
+                    Ok(Step::Accessed)
+                } else {
+                    Ok(Step::Rested)
+                }
+            }
+            Need::Over => Ok(Step::Rested),
+        }
+    }
+
+    // Makes an access of a hart, which is of this class.
+    #[inline(always)]
+    fn make_access(&mut self, h: usize, access: Access, class: Class) -> Result<(), AllocError>
+        requires hart { h < length self.old.harts.items }
+        requires class { class ≡ class_of_access access }
+        requires next { (setup : Setup) × (u : Machine) × IsAt setup u self.old × (next_of setup u h ≡ Asks access)
+            × IsPlaced setup.harts setup.ram access }
+        ensures at { (setup : Setup) (u : Machine) → IsAt setup u self.old → next_of setup u h ≡ Asks access
+            → OnOk result (IsAt setup (step setup u h) self.new) }
+        ensures nearer { OnOk result (left (progress_at self.new h) < left (progress_at self.old h)) }
+    {
+        let hart = HartId(h as u8);
+        let layout = self.layout();
+        let reply = self.memory.act(hart, &access);
+        give(&self.harts[h], &mut self.progress[h], &layout, self.settings.budget, reply);
+        self.run.add_access(hart, class, access, reply)?;
+        Ok(())
+    }
+
+    #[inline(always)]
+    fn layout(&self) -> Layout
+        ensures { result ≡ layout_of self.now.settings }
+    {
+        Layout {
+            harts: self.settings.harts,
+            ram: self.settings.ram,
         }
     }
 }
@@ -218,10 +275,4 @@ fn first_harts(alloc: Global, count: u8, entry: u64) -> Result<Vec<Hart>, AllocE
         harts.push(Hart::start(HartId(h), entry))?;
     }
     Ok(harts)
-}
-
-fn all_done(progress: &[Progress]) -> bool
-    ensures { result ≡ list_all is_done progress.now }
-{
-    progress.iter().all(|p| p.is_over())
 }

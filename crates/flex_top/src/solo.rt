@@ -1,66 +1,61 @@
-ghost use Rattle.std.specs.Prelude.{◌≡◌, ◌≢◌, ℕ};
-ghost use Rattle.flex_base.specs.Outside.{OnlyWrites, Writes};
-ghost use Rattle.flex_top.specs.Answer.{image_in, answer_of, outcome_of};
-ghost use Rattle.flex_top.specs.Does.{IsAnswer, Leaves, LeavesPart};
+ghost use Rattle.std.specs.Prelude.{◌≡◌, ◌≢◌, true, Ok};
+ghost use Rattle.flex_base.specs.Loaded.{Loaded, image_fits};
+ghost use Rattle.flex_base.specs.Outside.{Writes};
+ghost use Rattle.image_loader.specs.Loading.{IsSameStart};
+ghost use Rattle.flex_top.specs.Answer.{setup_of, outcome_of_run};
+ghost use Rattle.flex_top.specs.Does.{Leaves, LeavesPart, LeavesNothing};
+ghost use Rattle.flex_top.specs.Taking.{IsOfRun};
+ghost use Rattle.flex_top.specs.Written.{OnlyLeaves};
 ghost use Rattle.flex_top.specs.Words.{reading_of_command, IsLimited};
 
-use crate::image::image_of;
-use crate::player::Stuck;
+use crate::leaving::leave;
 use crate::prepared::{Prepared, prepare};
 use crate::status::Status;
-use crate::trace_file::write_trace;
 use crate::words::Command;
-use flex_base::{Failed, Outer};
-use image_loader::ImageFault;
+use flex_base::{Failed, Image, Outer};
 use std::alloc::Global;
 
-// Plays the image in the order that the command gives, and writes the trace.
+// Plays the image with this input in the order that the command gives, says what the run sent to the
+// console, and writes its trace.
 pub(crate) fn solo<O: Outer>(
     alloc: Global,
     command: &Command,
-    file: Vec<u8>,
+    image: Image,
+    input: Vec<u8>,
     outer: &mut O,
 ) -> Status
-    requires { IsLimited command.now }
-    ensures answer { let r = reading_of_command command.now in
-        IsAnswer (answer_of (image_in file.items r.settings.ram) r.settings r.order) result }
-    ensures ended { let r = reading_of_command command.now in
-        result ≡ Status.Ended → Leaves (outcome_of (image_in file.items r.settings.ram) r)
+    requires limits { IsLimited command.now }
+    requires fits { image_fits command.now.settings.ram image ≡ true }
+    ensures answer { IsOfRun result }
+    ensures ended { (start : Loaded) → IsSameStart start image → result ≡ Status.Ended
+        → Leaves (outcome_of_run (reading_of_command command.now) (setup_of start input.items command.now.settings))
         (O.outside outer.old) (O.outside outer.new) }
-    ensures cut { let r = reading_of_command command.now in
-        result ≡ Status.WriteFault → LeavesPart (outcome_of (image_in file.items r.settings.ram) r)
+    ensures cut { (start : Loaded) → IsSameStart start image → result ≡ Status.WriteFault
+        → LeavesPart (outcome_of_run (reading_of_command command.now) (setup_of start input.items command.now.settings))
         (O.outside outer.old) (O.outside outer.new) }
 
     ensures nothing { result ≢ Status.Ended → result ≢ Status.WriteFault
-        → (O.outside outer.new).written ≡ (O.outside outer.old).written }
+        → LeavesNothing (O.outside outer.old) (O.outside outer.new) }
     ensures others { Writes (O.outside outer.old) (O.outside outer.new) command.now.trace.now (λ was is. Unit {0}) }
-    ensures frame { OnlyWrites (O.outside outer.old) (O.outside outer.new) (result ≡ Status.WriteFault) }
-    ensures not_read { result ≢ Status.ReadFault }
-    ensures not_long { (n : ℕ) → result ≢ Status.ImageRefused (ImageFault.TooLong n) }
-    ensures not_memory { result ≢ Status.ImageRefused ImageFault.OutOfMemory }
+    ensures frame { OnlyLeaves (O.outside outer.old) (O.outside outer.new) (result ≡ Status.WriteFault) }
 {
-    let image = match image_of(alloc, file, command.settings.ram) {
-        Ok(image) => image,
-        Err(ImageFault::OutOfMemory) => return Status::OutOfMemory,
-        Err(fault) => return Status::ImageRefused(fault),
-    };
     let Prepared {
         mut player,
         order,
         mut pieces,
         mut tail,
-    } = match prepare(alloc, image, &command.settings, command.order) {
+    } = match prepare(alloc, image, input, &command.settings, command.order) {
         Ok(prepared) => prepared,
         Err(_) => return Status::OutOfMemory,
     };
     match player.play(&order) {
         Ok(()) => {}
-        Err(Stuck::Unbuilt(pc)) => return Status::Unbuilt(pc),
-        Err(Stuck::OutOfMemory) => return Status::OutOfMemory,
+        Err(_) => return Status::OutOfMemory,
     }
     player.fill_tail(&mut tail);
-    match write_trace(
+    match leave(
         outer,
+        player.console(),
         command.trace,
         &mut pieces,
         &command.settings,

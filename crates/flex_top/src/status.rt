@@ -1,5 +1,5 @@
-ghost use Rattle.std.specs.Prelude.{◌≡◌, ◌+◌, ◌≤◌, ◌++◌, length, IfOk};
-ghost use Rattle.flex_top.specs.Status.{refusal, meaning, is_ended, status_code, status_text};
+ghost use Rattle.std.specs.Prelude.{◌≡◌, ◌+◌, ◌≤◌, ◌++◌, length, decimal, IfOk};
+ghost use Rattle.flex_top.specs.Status.{meaning, is_ended, status_code, status_text};
 
 use flex_base::Line;
 use image_loader::ImageFault;
@@ -20,8 +20,8 @@ pub enum Status {
     OutOfMemory,
     /// A file couldn't be written.
     WriteFault,
-    /// The hart with this `pc` would do what isn't built yet.
-    Unbuilt(u64),
+    /// The console's input has this many bytes or more, over the limit.
+    InputTooLong(u64),
 }
 
 /// The number with which the program ends.
@@ -35,7 +35,7 @@ pub fn status_code(status: &Status) -> u8
         Status::ImageRefused(_) => 3,
         Status::OutOfMemory => 5,
         Status::WriteFault => 6,
-        Status::Unbuilt(_) => 10,
+        Status::InputTooLong(_) => 7,
     }
 }
 
@@ -59,30 +59,34 @@ fn is_ended(status: &Status) -> bool
     matches!(status, Status::Ended)
 }
 
-// Adds what the status says to the line: 17 bytes at most.
+// Adds what the status says to the line: 35 bytes at most.
 fn push_meaning(line: &mut Line, status: &Status)
-    requires { length line.old + 17 ≤ 128 }
+    requires { length line.old + 35 ≤ 128 }
     ensures text { line.new ≡ line.old ++ meaning status.now }
-    ensures room { length line.new ≤ length line.old + 17 }
+    ensures room { length line.new ≤ length line.old + 35 }
 {
     match status {
         Status::Ended => {}
         Status::Usage => line.push(b"usage"),
         Status::ReadFault => line.push(b"read fault"),
-        Status::ImageRefused(fault) => push_refusal(line, *fault),
+        Status::ImageRefused(fault) => {
+            push_numbered(line, b"image refused ", fault.number().into());
+        }
         Status::OutOfMemory => line.push(b"out of memory"),
         Status::WriteFault => line.push(b"write fault"),
-        Status::Unbuilt(_) => line.push(b"unbuilt"),
+        Status::InputTooLong(n) => push_numbered(line, b"input too long ", *n),
     }
 }
 
-fn push_refusal(line: &mut Line, fault: ImageFault)
-    requires { length line.old + 17 ≤ 128 }
-    ensures text { line.new ≡ line.old ++ refusal fault }
-    ensures room { length line.new ≤ length line.old + 17 }
+// Adds a text of at most 15 bytes, and a number.
+fn push_numbered(line: &mut Line, text: &[u8], number: u64)
+    requires short { length text.now ≤ 15 }
+    requires fits { length line.old + 35 ≤ 128 }
+    ensures text { line.new ≡ line.old ++ text.now ++ decimal number }
+    ensures room { length line.new ≤ length line.old + 35 }
 {
-    line.push(b"image refused ");
-    line.push(Buffer::new().format(fault.number()).as_bytes());
+    line.push(text);
+    line.push(Buffer::new().format(number).as_bytes());
 }
 
 #[cfg(test)]
@@ -98,7 +102,16 @@ mod tests {
             (Status::ReadFault, 2, "flexemu: read fault\n"),
             (Status::OutOfMemory, 5, "flexemu: out of memory\n"),
             (Status::WriteFault, 6, "flexemu: write fault\n"),
-            (Status::Unbuilt(1), 10, "flexemu: unbuilt\n"),
+            (
+                Status::InputTooLong(1_048_577),
+                7,
+                "flexemu: input too long 1048577\n",
+            ),
+            (
+                Status::InputTooLong(u64::MAX),
+                7,
+                "flexemu: input too long 18446744073709551615\n",
+            ),
         ] {
             assert_status(&rt, rt.alloc(), status, code, text)?;
         }

@@ -1,9 +1,10 @@
+mod devices;
 mod images;
 mod programs;
 
 ghost use Rattle.std.specs.Prelude.{◌≡◌, map, Some, IsSomeAnd, string_bytes};
 ghost use Rattle.flex_top.specs.Words.{Reading, reading};
-ghost use Rattle.flex_top.specs.Answer.{expected};
+ghost use Rattle.flex_top.specs.Answer.{sources_among, expected};
 ghost use Rattle.flex_top.specs.Does.{IsEnded};
 
 use super::*;
@@ -40,12 +41,6 @@ done
 const REWRITING: [u8; 24] = [
     0x97, 0x02, 0x00, 0x00, 0x03, 0xa3, 0x42, 0x01, 0x23, 0xa6, 0x62, 0x00, 0x00, 0x00, 0x00, 0x00,
     0x6f, 0x00, 0x00, 0x00, 0x93, 0x03, 0x10, 0x00,
-];
-
-// `addi x5, x0, 7`, `lui x6, 256`, `lui x7, 5`, `addi x7, x7, 1365`, and `sw x7, 0(x6)`, which is outside RAM.
-const OUTSIDE: [u8; 20] = [
-    0x93, 0x02, 0x70, 0x00, 0x37, 0x03, 0x10, 0x00, 0xb7, 0x53, 0x00, 0x00, 0x93, 0x83, 0x53, 0x55,
-    0x23, 0x20, 0x73, 0x00,
 ];
 
 // `auipc x5, 0`, `addi x5, x5, 16`, `csrrw x0, mtvec, x5`, `ecall`, and where that leads: `csrrs x6,
@@ -179,9 +174,21 @@ fn run(
     line: &str,
     failing: &[u64],
 ) -> Result<(Status, MemoryOuter), AllocError> {
+    run_with(alloc, image, b"", line, failing)
+}
+
+// The same, where `in` is this input.
+fn run_with(
+    alloc: Global,
+    image: &[u8],
+    input: &[u8],
+    line: &str,
+    failing: &[u64],
+) -> Result<(Status, MemoryOuter), AllocError> {
     let words = words_of(alloc, line)?;
     let mut files = Vec::new(alloc);
     files.push((Text::of(alloc, b"img")?, Vec::from_slice(alloc, image)?))?;
+    files.push((Text::of(alloc, b"in")?, Vec::from_slice(alloc, input)?))?;
     let failing = Vec::from_slice(alloc, failing)?;
     let mut outer = MemoryOuter::new(alloc, files, failing);
     let status = flex_top(alloc, &words, &mut outer);
@@ -199,7 +206,7 @@ fn text_of(outer: &MemoryOuter) -> &str {
 // What the words come to over an outside that never fails: a run that is to end ends, or memory runs out.
 fn run_steadily(alloc: Global, words: &[String], outer: &mut SteadyOuter) -> Status
     ensures { (r : Reading) → reading (map string_bytes words.now) ≡ Some r
-        → IsSomeAnd (⟦<SteadyOuter as Outer>⟧.outside outer.old).held (λ files. expected r files ≡ Status.Ended)
+        → IsSomeAnd (⟦<SteadyOuter as Outer>⟧.outside outer.old).held (λ files. expected r (sources_among r files) ≡ Status.Ended)
         → IsEnded result }
 {
     flex_top(alloc, words, outer)
@@ -357,18 +364,8 @@ fn answers_by_the_image(rt: HostRuntime) -> Result<(), AllocError> {
     let alloc = rt.alloc();
     let whole = vec![in alloc; 0; 1_048_576]?;
     let longer = vec![in alloc; 0; 1_048_577]?;
-    // `addi x0, x0, 0`, and `wfi`.
-    let waiting = [0x13, 0, 0, 0, 0x73, 0, 0x50, 0x10];
-    for (image, status) in [
-        (
-            longer.as_slice(),
-            Status::ImageRefused(ImageFault::SegmentOutsideRam(0)),
-        ),
-        (waiting.as_slice(), Status::Unbuilt(0x8000_0004)),
-        (OUTSIDE.as_slice(), Status::Unbuilt(0x8000_0010)),
-    ] {
-        assert_image(&rt, alloc, image, status)?;
-    }
+    let outside = Status::ImageRefused(ImageFault::SegmentOutsideRam(0));
+    assert_image(&rt, alloc, &longer, outside)?;
     let (answer, _) = run(
         alloc,
         whole.as_slice(),
@@ -379,7 +376,7 @@ fn answers_by_the_image(rt: HostRuntime) -> Result<(), AllocError> {
     Ok(())
 }
 
-// That the image comes to this status, of a run that isn't written.
+// That the image is refused so, and nothing is written.
 fn assert_image(
     rt: &impl Abort,
     alloc: Global,

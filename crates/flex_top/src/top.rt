@@ -1,28 +1,27 @@
-ghost use Rattle.std.specs.Prelude.{◌≡◌, ◌≢◌, ◌↔◌, List, ℕ, map, Some, None, string_bytes};
+ghost use Rattle.std.specs.Prelude.{◌≡◌, ◌≢◌, ◌↔◌, ◌<◌, List, ℕ, map, Some, None, string_bytes};
 ghost use Rattle.flex_base.specs.Setup.{Setup};
 ghost use Rattle.flex_base.specs.EndOfRun.{GoesOn};
 ghost use Rattle.flex_top.specs.Words.{Reading, reading};
-ghost use Rattle.flex_top.specs.Answer.{EndsWhole};
+ghost use Rattle.flex_top.specs.Answer.{IsWhole};
 ghost use Rattle.flex_top.specs.Does.{Does, TellsFaults};
 
 use crate::solo::solo;
+use crate::sources::{take_image, take_input};
 use crate::status::Status;
 use crate::words::read_words;
-use flex_base::{Outer, TakeFault};
+use flex_base::Outer;
 use image_loader::ImageFault;
 use std::alloc::Global;
-
-// An image file has at most 256 MiB.
-const IMAGE_LIMIT: u64 = 268_435_456;
 
 /// Does what the words ask for; the program's name isn't among them.
 ///
 /// `solo IMAGE TRACE`, which options may follow, plays the harts over the image in the file of that
-/// name, in the given order and then in rounds, and writes the trace of the run under the other
-/// name. No other file is touched, and nothing is said. After an answer other than `Ended` and
-/// `WriteFault` nothing is written; after `WriteFault` the file is as it was, or the beginning of the
-/// trace.
-#[tactic(auto, using(flex_base::proofs::EndOfRun::run_goes_on, crate::proofs::Writing::built_whole))]
+/// name, in the given order and then in rounds until the run has ended, with the file that
+/// `--input=` names as the console's input. It says the bytes that the run sent to the console, and
+/// then writes the trace of the run under the other name. No other file is touched. After an answer
+/// other than `Ended` and `WriteFault` nothing is said or written; after `WriteFault` either the first
+/// of the bytes are said, or all of them, and the file is as it was or the beginning of the trace.
+#[tactic(auto, using(flex_base::proofs::EndOfRun::run_goes_on, crate::proofs::Writing::run_whole))]
 pub fn flex_top<O: Outer>(alloc: Global, words: &[String], outer: &mut O) -> Status
     ensures usage { (result ≡ Status.Usage) ↔ (reading (map string_bytes words.now) ≡ None) }
     ensures does { (r : Reading) → reading (map string_bytes words.now) ≡ Some r
@@ -33,18 +32,21 @@ pub fn flex_top<O: Outer>(alloc: Global, words: &[String], outer: &mut O) -> Sta
     // Want of memory is no refusal of the image.
     ensures memory { result ≢ Status.ImageRefused ImageFault.OutOfMemory }
 
-    // Of each run: its journal is legal, obeys the default plan and has ended, where all is built; it
-    // goes on until it has ended, and no hart has an event for ever.
-    ensures whole { (setup : Setup) (order : List ℕ) → EndsWhole setup order }
-    ensures goes_on { (setup : Setup) (order : List ℕ) → GoesOn setup order }
+    // Of each run with a hart: its journal is legal, obeys the default plan and has ended; it goes on
+    // until it has ended, and no hart has an event for ever.
+    ensures whole { (setup : Setup) (order : List ℕ) → 0 < setup.harts → IsWhole setup order }
+    ensures goes_on { (setup : Setup) (order : List ℕ) → 0 < setup.harts → GoesOn setup order }
 {
     let Some(command) = read_words(words) else {
         return Status::Usage;
     };
-    match outer.take(command.image, IMAGE_LIMIT) {
-        Ok(file) => solo(alloc, &command, file, outer),
-        Err(TakeFault::Failed) => Status::ReadFault,
-        Err(TakeFault::TooLong(n)) => Status::ImageRefused(ImageFault::TooLong(n)),
-        Err(TakeFault::OutOfMemory) => Status::OutOfMemory,
-    }
+    let image = match take_image(alloc, command.image, command.settings.ram, outer) {
+        Ok(image) => image,
+        Err(refusal) => return refusal,
+    };
+    let input = match take_input(alloc, command.input, outer) {
+        Ok(input) => input,
+        Err(refusal) => return refusal,
+    };
+    solo(alloc, &command, image, input, outer)
 }

@@ -1,6 +1,6 @@
 ghost use Rattle.std.specs.Prelude.{◌≡◌, ◌<◌, ◌≤◌, List, ℕ, [], ◌∷◌, ◌++◌, map, length, Some, None, All, option_map, IfOk, IfSome, if◌then◌else◌, string_bytes};
 ghost use Rattle.std.specs.List.{list_all};
-ghost use Rattle.flex_top.specs.Words.{reading, with_options, reading_of_command, is_name, is_option, is_digit, number_of, number, hart_of, is_order, value_of, values, number_option, order_option, is_solo, IsGiven, IsLimited};
+ghost use Rattle.flex_top.specs.Words.{reading, with_options, reading_of_command, is_name, is_option, is_digit, number_of, number, hart_of, is_order, value_of, values, number_option, input_option, named, order_option, is_solo, IsGiven, IsLimited};
 
 use flex_base::Settings;
 use std::alloc::{AllocError, Global};
@@ -14,6 +14,8 @@ pub struct Command<'a> {
     pub trace: &'a str,
     /// The size of the run. All harts together make at most 262,144 ends.
     pub settings: Settings,
+    /// The name of the file that is the console's input; where there is none, the input is empty.
+    pub input: Option<&'a str>,
     /// Which harts make the next events before the rounds: at most 65,536 characters, each of
     /// which names a hart.
     pub order: &'a [u8],
@@ -23,14 +25,14 @@ pub struct Command<'a> {
 #[derive(Clone, Copy)]
 pub enum Given<'a> {
     Never,
-    Once(&'a [u8]),
+    Once(&'a str),
     Twice,
 }
 
 const MEBIBYTE: u64 = 1_048_576;
 
 /// The command that these words are: `solo IMAGE TRACE`, and then any of the options `--harts=`,
-/// `--ram=`, `--budget=` and `--order=`, each at most once. Other words have no reading.
+/// `--ram=`, `--budget=`, `--input=` and `--order=`, each at most once. Other words have no reading.
 pub fn read_words(words: &[String]) -> Option<Command<'_>>
     ensures reading { option_map reading_of_command result ≡ reading (map string_bytes words.now) }
     ensures limits { IfSome result IsLimited }
@@ -80,6 +82,7 @@ fn is_option(word: &[u8]) -> bool
     word.starts_with(b"--harts=")
         || word.starts_with(b"--ram=")
         || word.starts_with(b"--budget=")
+        || word.starts_with(b"--input=")
         || word.starts_with(b"--order=")
 }
 
@@ -88,9 +91,10 @@ fn with_options<'a>(image: &'a str, trace: &'a str, words: &'a [String]) -> Opti
         ≡ with_options image.now trace.now (map string_bytes words.now) }
     ensures limits { IfSome result IsLimited }
 {
-    let harts = number_option(b"--harts=", 1, 32, words)?;
-    let mebibytes = number_option(b"--ram=", 16, 256, words)?;
-    let budget = number_option(b"--budget=", 8192, 262_144, words)?;
+    let harts = number_option("--harts=", 1, 32, words)?;
+    let mebibytes = number_option("--ram=", 16, 256, words)?;
+    let budget = number_option("--budget=", 8192, 262_144, words)?;
+    let input = input_option(words)?;
     let order = order_option(words)?;
     if harts * budget > 262_144 {
         return None;
@@ -104,12 +108,13 @@ fn with_options<'a>(image: &'a str, trace: &'a str, words: &'a [String]) -> Opti
         image,
         trace,
         settings,
+        input,
         order,
     })
 }
 
 // The value of an option that is a number from 1 up to `most`.
-fn number_option(name: &[u8], default: u64, most: u64, words: &[String]) -> Option<u64>
+fn number_option(name: &str, default: u64, most: u64, words: &[String]) -> Option<u64>
     requires default { 1 ≤ default }
     requires most { default ≤ most }
     ensures value { result ≡ number_option name.now default most (map string_bytes words.now) }
@@ -118,8 +123,19 @@ fn number_option(name: &[u8], default: u64, most: u64, words: &[String]) -> Opti
 {
     match look_up(name, words) {
         Given::Never => Some(default),
-        Given::Once(value) => number(most, value),
+        Given::Once(value) => number(most, value.as_bytes()),
         Given::Twice => None,
+    }
+}
+
+// The name that the option `--input=` gives, which isn't empty; no name where it isn't given.
+fn input_option(words: &[String]) -> Option<Option<&str>>
+    ensures { option_map (λ name. option_map (λ text. text.now) name) result ≡ input_option (map string_bytes words.now) }
+{
+    match look_up("--input=", words) {
+        Given::Never => Some(None),
+        Given::Once(name) if !name.is_empty() => Some(Some(name)),
+        _ => None,
     }
 }
 
@@ -129,26 +145,26 @@ fn order_option(words: &[String]) -> Option<&[u8]>
     ensures length { IfSome result (λ text. length text.now ≤ 65536) }
     ensures names { IfSome result (λ text. All (λ character. hart_of character < 32) text.now) }
 {
-    match look_up(b"--order=", words) {
+    match look_up("--order=", words) {
         Given::Never => Some(&[]),
-        Given::Once(text) if is_order(text) => Some(text),
+        Given::Once(text) if is_order(text.as_bytes()) => Some(text.as_bytes()),
         _ => None,
     }
 }
 
-fn look_up<'a>(name: &[u8], words: &'a [String]) -> Given<'a>
+fn look_up<'a>(name: &str, words: &'a [String]) -> Given<'a>
     ensures { IsGiven (values name.now (map string_bytes words.now)) result }
 {
     let mut given = Given::Never;
     for word in words {
-        if let Some(value) = value_of(name, word.as_bytes()) {
+        if let Some(value) = value_of(name, word.as_str()) {
             given = once_more(given, value);
         }
     }
     given
 }
 
-fn once_more<'a>(given: Given<'a>, value: &'a [u8]) -> Given<'a>
+fn once_more<'a>(given: Given<'a>, value: &'a str) -> Given<'a>
     ensures { (found : List (List ℕ)) → IsGiven found given.entry → IsGiven (found ++ value.now ∷ []) result }
 {
     match given {
@@ -157,14 +173,10 @@ fn once_more<'a>(given: Given<'a>, value: &'a [u8]) -> Given<'a>
     }
 }
 
-fn value_of<'a>(name: &[u8], word: &'a [u8]) -> Option<&'a [u8]>
+fn value_of<'a>(name: &str, word: &'a str) -> Option<&'a str>
     ensures { option_map (λ value. value.now) result ≡ value_of name.now word.now }
 {
-    if word.starts_with(name) {
-        Some(&word[name.len()..])
-    } else {
-        None
-    }
+    word.strip_prefix(name)
 }
 
 fn number(most: u64, word: &[u8]) -> Option<u64>

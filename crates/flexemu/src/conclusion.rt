@@ -45,7 +45,11 @@ mod tests {
             ),
             (Status::OutOfMemory, 5, "flexemu: out of memory\n"),
             (Status::WriteFault, 6, "flexemu: write fault\n"),
-            (Status::Unbuilt(1), 10, "flexemu: unbuilt\n"),
+            (
+                Status::InputTooLong(1_048_577),
+                7,
+                "flexemu: input too long 1048577\n",
+            ),
         ] {
             let mut stderr = Vec::from_slice(rt.alloc(), b"before\n")?;
             assert_eq!(rt;

@@ -17,7 +17,7 @@ use Rattle.hart_story.specs.declared.hart.Hart.{Hart}
 use Rattle.hart_story.specs.declared.progress.Progress.{Progress}
 
 abbrev pub setup_of : Layout → ℕ → Setup
-setup_of layout budget = record { image = record { entry = 0; parts = [] }; harts = layout.harts; ram = layout.ram; budget = budget }
+setup_of layout budget = record { image = record { entry = 0; parts = [] }; harts = layout.harts; ram = layout.ram; budget = budget; input = [] }
 
 -- the layout of the tests: four harts in 1 MiB of RAM
 abbrev pub small : Layout

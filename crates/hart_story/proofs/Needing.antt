@@ -53,3 +53,11 @@ parked_asked (Says a next) e = absurd cc
 parked_asked (Closes part after) e = absurd cc
 parked_asked StaysOver e = absurd cc
 parked_asked (Parks wakes) e = refl
+
+-- an access that is needed is asked
+pub needs_asked : (access : Access) (class : Class) (s : Story) → need.Ask access class ≡ need_of (want s) → asked s ≡ access ∷ []
+needs_asked access class s e = wants_asked s access (needs_ask access class (want s) e)
+
+-- and so is the pulse of a hart that needs to be woken
+pub needs_pulse : (s : Story) → need.Parked ≡ need_of (want s) → asked s ≡ acc.Pulse false ∷ []
+needs_pulse s e = parked_asked s (needs_parked (want s) e)

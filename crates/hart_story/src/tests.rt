@@ -11,6 +11,7 @@ use playing::play;
 use std::process::Abort;
 
 mod csrs;
+mod device_accesses;
 mod interrupts;
 mod needs;
 mod page_faults;
@@ -19,6 +20,7 @@ mod playing;
 mod returns;
 mod translations;
 mod traps;
+mod waits;
 
 const BUDGET: u64 = 100;
 

@@ -5,7 +5,7 @@ use Rattle.flex_base.specs.Place.{ram_base}
 use Rattle.flex_base.specs.Setup.{Setup}
 use Rattle.flex_base.specs.FlatMemory.{byte}
 use Rattle.flex_base.specs.Unsplit.{Machine, instruction_at, reach}
-use Rattle.flex_base.specs.DevicesSoFar.{stop_of}
+use Rattle.flex_base.specs.Devices.{device_stop}
 use Rattle.flex_base.specs.Journal.{order_of}
 use Rattle.flex_base.specs.declared.event.Event.{Event}
 use Rattle.flex_base.specs.declared.settings.Settings.{Settings}
@@ -28,7 +28,7 @@ ram_bytes setup u = map (λ i. byte setup.image u.ram (ram_base + i)) (range_wit
 -- the lines after the events, of this state
 abbrev pub tail_of : Setup → Machine → List TailLine
 tail_of setup u =
-    tail_lines (stop_of setup.harts u.devices) setup.harts (λ h. (instruction_at u h).state) (ram_bytes setup u)
+    tail_lines (device_stop setup.harts u.devices) setup.harts (λ h. (instruction_at u h).state) (ram_bytes setup u)
 
 -- the trace of a run with these events; its tail is that of the state to which their order leads
 unfoldable pub trace_text : Setup → List Event → List ℕ

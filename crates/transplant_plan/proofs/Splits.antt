@@ -4,6 +4,7 @@ use Rattle.std.specs.List.{range_with_len}
 use Rattle.std.proofs.lemmas.List.{map-append, length_push}
 use Rattle.std.proofs.lemmas.List.Elements.{filter-append}
 use Rattle.flex_base.specs.Classes.{class_of_what}
+use Rattle.flex_base.specs.Devices.{sent_bytes}
 use Rattle.flex_base.specs.Setup.{Setup}
 use Rattle.flex_base.specs.Unsplit.{Machine, Made, begin, reach, unsplit, does}
 use Rattle.flex_base.specs.Journal.{event, is_handover, strip, order_of, numbers_of, IsLegal, sent, console}
@@ -12,7 +13,7 @@ use Rattle.flex_base.specs.declared.event.Event.{Event}
 use Rattle.flex_base.specs.declared.event.What.{What}
 use Rattle.flex_base.specs.declared.event.What.TheVariants as what
 use Rattle.flex_base.proofs.Orders.{Plain, More, harts_of, added, range_with_len_push}
-use Rattle.flex_base.proofs.Quiet.{sent_quiet}
+use Rattle.flex_base.proofs.Console.{sent_devices}
 use Rattle.transplant_plan.specs.Split.{Plan, Splitting, split_event, split_run, first_split, split, with_number, with_handover, holder_of, is_same_engine}
 
 -- Stripping a split run gives back the events that were split.
@@ -118,6 +119,6 @@ split_legal setup plan order = record {
   events = strip-split-unsplit setup plan order ∙ sym (ap (λ (u : Machine). u.events) (reach-order_of setup plan order));
 }
 
--- no split run writes to the console
-pub console_quiet : (setup : Setup) (plan : Plan) (order : List ℕ) → console (split plan setup.harts (unsplit setup order)) ≡ []
-console_quiet setup plan order = ap sent (strip-split-unsplit setup plan order) ∙ sent_quiet setup order
+-- the console of a split run is what the devices have sent
+pub console_devices : (setup : Setup) (plan : Plan) (order : List ℕ) → console (split plan setup.harts (unsplit setup order)) ≡ sent_bytes (reach setup order).devices
+console_devices setup plan order = ap sent (strip-split-unsplit setup plan order) ∙ sent_devices setup order

@@ -7,7 +7,7 @@ use std::alloc::{AllocError, Global};
 use std::process::Abort;
 
 // The bytes of an image of these words.
-fn image_of(alloc: Global, words: &[u32]) -> Result<Vec<u8>, AllocError> {
+pub(super) fn image_of(alloc: Global, words: &[u32]) -> Result<Vec<u8>, AllocError> {
     let mut image = Vec::new(alloc);
     for word in words {
         image.extend_from_slice(&word.to_le_bytes())?;
@@ -16,7 +16,7 @@ fn image_of(alloc: Global, words: &[u32]) -> Result<Vec<u8>, AllocError> {
 }
 
 // What is left by a run of these words that comes to an end.
-fn run_to_end(
+pub(super) fn run_to_end(
     rt: &impl Abort,
     alloc: Global,
     words: &[u32],
@@ -29,7 +29,7 @@ fn run_to_end(
 }
 
 // That the trace has each of these parts.
-fn assert_parts(rt: &impl Abort, outer: &MemoryOuter, parts: &[&str]) {
+pub(super) fn assert_parts(rt: &impl Abort, outer: &MemoryOuter, parts: &[&str]) {
     let text = text_of(outer);
     for part in parts {
         assert!(rt; text.contains(*part), "no {part}");

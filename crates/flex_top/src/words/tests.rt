@@ -85,7 +85,11 @@ solo img -
 solo --ram=1 --budget=1 img out
 solo img --ram=1 out
 solo img out --harts=1 more
-solo img out --input=1
+solo img out --input=
+solo img out --input
+solo img out --input in
+solo img out --input=a --input=a
+solo img out --Input=a
 solo img out --RAM=1
 solo img out -ram=1
 solo img out --ram
@@ -159,6 +163,31 @@ fn limits_the_order(rt: HostRuntime) -> Result<(), AllocError> {
     }
     let more = words_with_order(rt.alloc(), 65_537)?;
     assert!(rt; read_words(&more).is_none());
+    Ok(())
+}
+
+#[test]
+fn reads_the_name_of_the_input(rt: HostRuntime) -> Result<(), AllocError> {
+    for (line, name) in [
+        ("solo img out", None),
+        ("solo img out --input=in", Some("in")),
+        ("solo img out --ram=1 --input=-- --order=0", Some("--")),
+        ("solo img out --input=img --budget=1", Some("img")),
+    ] {
+        assert_input(&rt, rt.alloc(), line, name)?;
+    }
+    Ok(())
+}
+
+fn assert_input(
+    rt: &impl Abort,
+    alloc: Global,
+    line: &str,
+    name: Option<&str>,
+) -> Result<(), AllocError> {
+    let words = words_of(alloc, line)?;
+    let command = read_words(&words);
+    assert!(rt; command.is_some_and(|command| command.input == name), "{line}");
     Ok(())
 }
 

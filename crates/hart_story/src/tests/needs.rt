@@ -146,6 +146,21 @@ pub(super) fn write(address: u64, width: u8, value: u64) -> Need {
     )
 }
 
+pub(super) fn dev_read(address: u64, width: u8) -> Need {
+    Need::Ask(Access::DevRead { address, width }, Class::Device)
+}
+
+pub(super) fn dev_write(address: u64, width: u8, value: u64) -> Need {
+    Need::Ask(
+        Access::DevWrite {
+            address,
+            width,
+            value,
+        },
+        Class::Device,
+    )
+}
+
 fn needs_of_loads_and_stores(rt: &impl Abort) {
     let table = [
         // lb, lh, lw, ld, lbu, lhu and lwu x5, 0(x6)
@@ -174,8 +189,12 @@ fn needs_of_loads_and_stores(rt: &impl Abort) {
         (0x00433283, TRAP),
         (0x00502023, TRAP),
         // lw x5, 0(x8) and sw x5, 0(x8), which is a device register
-        (0x00042283, Need::Unbuilt),
-        (0x00542023, Need::Unbuilt),
+        (0x00042283, dev_read(0x0200_0000, 4)),
+        (0x00542023, dev_write(0x0200_0000, 4, 0x89ab_cdef)),
+        // lh x5, 0(x8) and sd x5, 0(x8), of which there is no register, and lr.w x5, (x8)
+        (0x00041283, TRAP),
+        (0x00543023, TRAP),
+        (0x100422af, TRAP),
     ];
     for (word, want) in table {
         assert_eq!(rt; need_of(&hart_of_accesses(), word), want, "{word:x}");
@@ -216,7 +235,7 @@ fn stops(rt: &impl Abort, lines: u64) {
     assert_eq!(rt; need(&hart, &progress, &layout, BUDGET), Need::Over);
 }
 
-fn stop(lines: u64) -> Reply {
+pub(super) fn stop(lines: u64) -> Reply {
     Reply {
         value: 0,
         lines,

@@ -37,7 +37,7 @@ pub(super) fn begin(rt: &impl Abort, hart: &Hart, layout: &Layout, budget: u64) 
     Progress::begin()
 }
 
-// Goes on with the reply to the access that the hart asks.
+// Goes on with the reply to the access that the hart asks, or to the pulse of a parked one.
 pub(super) fn answer(
     rt: &impl Abort,
     hart: &Hart,
@@ -52,6 +52,10 @@ pub(super) fn answer(
     match need(hart, progress, layout, budget) {
         Need::Ask(access, _) => {
             assert_form(rt, &access, reply);
+            give(hart, progress, layout, budget, reply);
+        }
+        Need::Parked => {
+            assert_lines(rt, reply);
             give(hart, progress, layout, budget, reply);
         }
         _ => rt.abort(),
@@ -121,17 +125,17 @@ fn assert_form(rt: &impl Abort, access: &Access, reply: Reply)
 {
     match *access {
         Access::Fetch { .. } => assert_value(rt, 4, reply),
-        Access::Read { width, .. } | Access::Lr { width, .. } | Access::Amo { width, .. } => {
-            assert_value(rt, width, reply)
-        }
-        Access::Write { .. } | Access::Retire => assert!(rt; reply == Reply::with_value(0)),
+        Access::Read { width, .. }
+        | Access::Lr { width, .. }
+        | Access::Amo { width, .. }
+        | Access::DevRead { width, .. } => assert_value(rt, width, reply),
+        Access::Write { .. } | Access::DevWrite { .. } | Access::Retire => assert!(rt; reply == Reply::with_value(0)),
         Access::Sc { .. } => {
             assert_value(rt, 1, reply);
             assert!(rt; reply.value < 2);
         }
         Access::Pte { .. } | Access::Time => assert_value(rt, 8, reply),
-        Access::Pulse { .. } => assert_lines(rt, reply),
-        _ => rt.abort(),
+        Access::Pulse { .. } | Access::Wait { .. } => assert_lines(rt, reply),
     }
 }
 

@@ -3,14 +3,14 @@ use super::needs::need_of;
 use super::traps::{assert_traps, hart_of_traps};
 use super::{MCYCLE, MEPC, MINSTRET, MSTATUS, SEPC, assert_becomes, hart_in, word, written};
 use crate::Need;
-use flex_base::{Class, Mode};
+use flex_base::{Access, Class, Mode};
 use std::process::Abort;
 
 const MRET: u32 = 0x3020_0073;
 
 const SRET: u32 = 0x1020_0073;
 
-const WFI: u32 = 0x1050_0073;
+pub(super) const WFI: u32 = 0x1050_0073;
 
 pub(super) const SFENCE_VMA: u32 = 0x1200_0073;
 
@@ -26,7 +26,7 @@ fn returns_lead_back(rt: HostRuntime) {
     leads_back_from_m(&rt);
     leads_back_from_s(&rt);
     refuses_by_mode(&rt);
-    leaves_what_is_not_built(&rt);
+    permits_by_mode(&rt);
 }
 
 // mstatus before and after, and the mode after: MIE (8) is what MPIE (80) was, which is then set, and
@@ -95,9 +95,11 @@ fn refuses_by_mode(rt: &impl Abort) {
     }
 }
 
-fn leaves_what_is_not_built(rt: &impl Abort) {
+// M and S may wait, M whatever TW says.
+fn permits_by_mode(rt: &impl Abort) {
+    let wait = Need::Ask(Access::Wait { mie: 0 }, Class::Pulse);
     for (mode, bits) in [(Mode::S, TVM | TSR), (Mode::M, TW)] {
         let hart = hart_in(mode, &[(MSTATUS, bits)]);
-        assert_eq!(rt; need_of(&hart, WFI), Need::Unbuilt);
+        assert_eq!(rt; need_of(&hart, WFI), wait);
     }
 }

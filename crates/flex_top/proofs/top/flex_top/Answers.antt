@@ -1,43 +1,52 @@
--- The run is that of the words and the file.
-use Rattle.std.proofs.Common.{◌≡◌, ℕ, Some, refl, sym, subst, ◌∙◌}
+-- The files are those that the words name, and the run is theirs.
+use Rattle.std.proofs.Common.{◌≡◌, ℕ, List, Option, None, Some, refl, ap, sym, subst, ◌∙◌}
+use Rattle.flex_base.specs.Files.{Files}
+use Rattle.flex_top.specs.Answer.{input_from}
 use Rattle.flex_top.specs.Does.{Does}
+use Rattle.flex_top.specs.Taking.{Gives, IsRefused}
 use Rattle.flex_top.specs.Words.{Reading, reading_of_command}
-use Rattle.flex_top.specs.declared.status.Status.TheVariants as status
-use Rattle.image_loader.specs.declared.fault.ImageFault.TheVariants as image
-use Rattle.flex_top.proofs.Doing.{does_solo, does_unread, does_too_long, does_wanting}
+use Rattle.flex_top.proofs.Doing.{reads_after, does_refuse_image, does_refuse_input, does_run, tells_refusal, tells_run, run_used, run_remembers, refusal_used, refusal_remembers}
 use Rattle.flex_top.proofs.top.flex_top.Goals as goal
 
 some_same : (a b : Reading) → Some a ≡ Some b → a ≡ b
 some_same a b same = cc
 
-pub returns-in-Ok-clause-does : goal.returns-in-Ok-clause-does
-returns-in-Ok-clause-does g c = λ r reads.
+pub returns-in-Err-clause-does : goal.returns-in-Err-clause-does
+returns-in-Err-clause-does g c = λ r reads.
     let command = reading_of_command c.in-Some.command in
-    let For : Reading → Type 0 = λ x. Does x (g.O.Outer.outside c.args.outer.now) c.solo.result (g.O.Outer.outside c.solo.new.outer) in
+    let For : Reading → Type 0 = λ x. Does x (g.O.Outer.outside c.args.outer.now) c.in-Err.refusal (g.O.Outer.outside c.take_image.new.outer) in
+    let took = c.in-Err.ensures in
+    subst For (some_same command r (c.in-Some.ensures.reading ∙ reads))
+    (does_refuse_image command (g.O.Outer.outside c.args.outer.now) (g.O.Outer.outside c.take_image.new.outer) c.in-Err.refusal took.refused took.refusal took.frame)
+
+pub returns-in-Err-take_input-clause-does : goal.returns-in-Err-take_input-clause-does
+returns-in-Err-take_input-clause-does g c = λ r reads.
+    let command = reading_of_command c.in-Some.command in
+    let old = g.O.Outer.outside c.args.outer.now in
+    let mid = g.O.Outer.outside c.take_image.new.outer in
+    let new = g.O.Outer.outside c.take_input.new.outer in
+    let For : Reading → Type 0 = λ x. Does x old c.in-Err-take_input.refusal new in
+    let gave = c.in-Ok.ensures in
+    let took = c.in-Err-take_input.ensures in
+    let Held : Option Files → Type 0 = λ h. IsRefused (List ℕ) h command.input input_from c.in-Err-take_input.refusal in
+    subst For (some_same command r (c.in-Some.ensures.reading ∙ reads))
+    (does_refuse_input command old new gave.gives.start c.in-Err-take_input.refusal gave.gives.gives (subst Held gave.frame.held took.refused) took.refusal
+    (reads_after old mid new _ _ gave.frame (λ fails. cc) took.frame))
+
+pub returns-clause-does : goal.returns-clause-does
+returns-clause-does g c = λ r reads.
+    let command = reading_of_command c.in-Some.command in
+    let old = g.O.Outer.outside c.args.outer.now in
+    let mid = g.O.Outer.outside c.take_image.new.outer in
+    let after = g.O.Outer.outside c.take_input.new.outer in
+    let new = g.O.Outer.outside c.solo.new.outer in
+    let For : Reading → Type 0 = λ x. Does x old c.solo.result new in
+    let gave = c.in-Ok.ensures in
+    let took = c.in-Ok-take_input.ensures in
+    let input = c.in-Ok-take_input.input.items in
+    let Held : Option Files → Type 0 = λ h. Gives (List ℕ) h command.input input_from input in
     let ran = c.solo.ensures in
     subst For (some_same command r (c.in-Some.ensures.reading ∙ reads))
-    (does_solo command (g.O.Outer.outside c.args.outer.now) (g.O.Outer.outside c.take.new.self) (g.O.Outer.outside c.solo.new.outer) c.in-Ok.file.items c.solo.result _
-    c.in-Ok.ensures.taken c.in-Ok.ensures.within c.in-Ok.ensures.frame ran.answer ran.ended ran.cut ran.nothing ran.others ran.frame ran.not_read ran.not_long)
-
-pub returns-in-Err-Failed-clause-does : goal.returns-in-Err-Failed-clause-does
-returns-in-Err-Failed-clause-does g c = λ r reads.
-    let took = rw c.in-Err-Failed.field-0-is at c.in-Err-Failed.ensures in
-    does_unread r (g.O.Outer.outside c.args.outer.now) (g.O.Outer.outside c.take.new.self) _ took.frame refl
-
-pub returns-in-Err-TooLong-clause-does : goal.returns-in-Err-TooLong-clause-does
-returns-in-Err-TooLong-clause-does g c = λ r reads.
-    let command = reading_of_command c.in-Some.command in
-    let took = rw c.in-Err-TooLong.field-0-is at c.in-Err-TooLong.ensures in
-    let n = c.in-Err-TooLong.n in
-    let For : Reading → Type 0 = λ x. Does x (g.O.Outer.outside c.args.outer.now) (status.ImageRefused (image.TooLong n)) (g.O.Outer.outside c.take.new.self) in
-    let Of : ℕ → Type 0 = λ k. Does r (g.O.Outer.outside c.args.outer.now) (status.ImageRefused (image.TooLong k)) (g.O.Outer.outside c.take.new.self) in
-    subst Of (sym c.in-Err-TooLong.n-is) (subst For (some_same command r (c.in-Some.ensures.reading ∙ reads))
-    (does_too_long command (g.O.Outer.outside c.args.outer.now) (g.O.Outer.outside c.take.new.self) n _ took.frame took.taken (took.over n refl)))
-
-pub returns-in-Err-OutOfMemory-clause-does : goal.returns-in-Err-OutOfMemory-clause-does
-returns-in-Err-OutOfMemory-clause-does g c = λ r reads.
-    let command = reading_of_command c.in-Some.command in
-    let took = rw c.in-Err-OutOfMemory.field-0-is at c.in-Err-OutOfMemory.ensures in
-    let For : Reading → Type 0 = λ x. Does x (g.O.Outer.outside c.args.outer.now) status.OutOfMemory (g.O.Outer.outside c.take.new.self) in
-    subst For (some_same command r (c.in-Some.ensures.reading ∙ reads))
-    (does_wanting command (g.O.Outer.outside c.args.outer.now) (g.O.Outer.outside c.take.new.self) _ took.frame took.taken)
+    (does_run command old after new gave.gives.start input c.solo.result _ gave.gives.gives (subst Held gave.frame.held took.gives)
+    (reads_after old mid after _ _ gave.frame (λ fails. cc) took.frame)
+    ran.answer (ran.ended gave.gives.start gave.gives.same) (ran.cut gave.gives.start gave.gives.same) ran.nothing ran.others ran.frame)

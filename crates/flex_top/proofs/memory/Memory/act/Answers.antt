@@ -1,6 +1,7 @@
--- The bank stays the replay of the accesses of RAM, and the time is as it was.
-use Rattle.std.proofs.Common.{refl, sym, ◌∙◌}
-use Rattle.flex_base.specs.Unsplit.{Machine}
+-- The bank stays the replay of the accesses of RAM, and the devices that of theirs.
+use Rattle.std.proofs.Common.{refl, ap, sym, ◌∙◌}
+use Rattle.flex_base.specs.FlatMemory.{flat}
+use Rattle.flex_base.specs.Devices.{reply_after}
 use Rattle.flex_top.specs.declared.memory.Memory.{Memory}
 use Rattle.flex_top.proofs.Banks.{is_here, serves_ram, serves_device}
 use Rattle.flex_top.proofs.memory.Memory.act.Goals as goal
@@ -11,12 +12,20 @@ act-requires-clause-here c =
 
 pub returns-then-is_ram-clause-serves : goal.returns-then-is_ram-clause-serves
 returns-then-is_ram-clause-serves c = λ setup u serves.
-    let new : Memory = record { lines = c.act.new.self; time = c.args.self.now.time } in
+    let new : Memory = record { lines = c.act.new.self; devices = c.args.self.now.devices } in
     serves_ram setup u.ram u.devices c.args.self.now new c.args.hart.0 c.args.access.now c.act.result (sym c.is_ram.ensures ∙ c.if-is_ram.true)
     c.act.ensures.same refl serves (c.act.ensures.replay setup u.ram serves.ram.replay)
 
+pub returns-else-is_ram-clause-form : goal.returns-else-is_ram-clause-form
+returns-else-is_ram-clause-form c = c.act-2.ensures.form c.requires.placed.0.harts c.requires.placed.0.ram c.requires.placed.2
+
+pub returns-else-is_ram-clause-reply : goal.returns-else-is_ram-clause-reply
+returns-else-is_ram-clause-reply c = λ setup u serves.
+    c.act-2.ensures.reply setup.harts setup.input u.devices serves.devices
+    ∙ sym (ap (λ b. if b then flat setup.image u.ram c.args.hart.0 c.args.access.now else reply_after setup.harts setup.input u.devices c.args.hart.0 c.args.access.now) (sym c.is_ram.ensures ∙ c.if-is_ram.false))
+
 pub returns-else-is_ram-clause-serves : goal.returns-else-is_ram-clause-serves
 returns-else-is_ram-clause-serves c = λ setup u serves.
-    let new : Memory = record { lines = c.args.self.now.lines; time = c.device_act.new.time } in
-    serves_device setup u.ram u.devices c.args.self.now new c.args.hart.0 c.args.access.now c.device_act.result (sym c.is_ram.ensures ∙ c.if-is_ram.false)
-    refl c.device_act.ensures.time serves
+    let new : Memory = record { lines = c.args.self.now.lines; devices = c.act-2.new.self } in
+    serves_device setup u.ram u.devices c.args.self.now new c.args.hart.0 c.args.access.now c.act-2.result (sym c.is_ram.ensures ∙ c.if-is_ram.false)
+    refl c.act-2.ensures.same serves (c.act-2.ensures.replay setup.harts setup.input u.devices serves.devices)

@@ -2,18 +2,13 @@
 use Rattle.std.proofs.Common.{◌≡◌, ℕ, ◌≤◌, false, nat_lt, subst, sym, arith}
 use Rattle.std.proofs.lemmas.Bool.Decides.{nat_tests}
 use Rattle.flex_base.specs.Unsplit.{Machine}
-use Rattle.std.proofs.lemmas.Result.{err_from_is_err_and}
-use Rattle.flex_top.specs.Play.{IsAt, IsStuck}
 use Rattle.flex_base.proofs.Machines.{step_beyond}
-use Rattle.flex_base.proofs.Turns.{built_beyond}
-use Rattle.flex_top.proofs.Rounds.{stuck_from, stepped}
+use Rattle.flex_top.specs.Play.{IsAt}
+use Rattle.flex_top.proofs.Rounds.{stepped}
 use Rattle.flex_top.proofs.player.Player.next.Goals as goal
 
 not_below : (h harts : ℕ) → harts ≤ h → nat_lt h harts ≡ false
 not_below h harts beyond = grind (arith, nat_tests)
-
-pub returns-in_err-step : goal.returns-in_err-step
-returns-in_err-step c = λ setup u at. stuck_from c.from_residual.result _ _ _ _ (err_from_is_err_and c.from_residual.result c.from_residual.ensures.1) (λ pc (stuck : IsStuck setup u c.args.h pc). stuck.unbuilt) (c.in_err-step.ensures.after setup u at)
 
 pub returns-in_ok-step : goal.returns-in_ok-step
 returns-in_ok-step c = λ setup u at. stepped setup u c.args.h c.in_ok-step.field-0 c.step.new.self (c.in_ok-step.ensures.after setup u at)
@@ -22,4 +17,4 @@ pub returns-else-h-len : goal.returns-else-h-len
 returns-else-h-len c = λ setup u at.
     let beyond : nat_lt c.args.h setup.harts ≡ false = not_below c.args.h setup.harts (omega (arith, c.if-h-len.false, c.len.ensures, at.harts)) in
     let At : Machine → Type 0 = λ m. IsAt setup m c.args.self.now in
-    record { at = subst At (sym (step_beyond setup u c.args.h beyond)) at; built = built_beyond setup u c.args.h beyond }
+    subst At (sym (step_beyond setup u c.args.h beyond)) at

@@ -1,13 +1,9 @@
 -- One more hart has its turn.
-use Rattle.std.proofs.Common.{◌≡◌, ◌+◌, ◌-◌, ◌<◌, [], ◌∷◌, ◌++◌, Some, refl, sym, ap, ◌∙◌, arith, append_assoc, append-nil}
+use Rattle.std.proofs.Common.{◌≡◌, ◌+◌, ◌-◌, ◌<◌, [], ◌∷◌, ◌++◌, refl, sym, ap, ◌∙◌, arith, append_assoc, append-nil}
 use Rattle.std.specs.List.{range_with_len}
-use Rattle.flex_base.specs.Unsplit.{reach, hart_numbers}
+use Rattle.flex_base.specs.Unsplit.{hart_numbers}
 use Rattle.flex_base.proofs.Orders.{range_with_len_push}
-use Rattle.std.proofs.lemmas.Result.{err_from_is_err_and}
-use Rattle.flex_base.specs.Built.{first_unbuilt}
-use Rattle.flex_base.specs.Rounds.{turn_of}
-use Rattle.flex_top.specs.Play.{with_turns}
-use Rattle.flex_top.proofs.Rounds.{stuck_from, playing_turn, playing_stuck, playing_as, numbers_more, numbers_all}
+use Rattle.flex_top.proofs.Rounds.{playing_turn, playing_over, playing_as, numbers_more, numbers_all}
 use Rattle.flex_top.proofs.player.Player.round.Goals as goal
 
 pub loop-h-init : goal.loop-h-init
@@ -18,16 +14,10 @@ loop-h-init c = λ setup order done rest at_first.
           (sym (append-nil done)) (ap (λ n. range_with_len 0 n ++ rest) all) at_first,
     )
 
-pub returns-in_err-turn : goal.returns-in_err-turn
-returns-in_err-turn c = λ setup order done rest at_first.
-    let h = c.loop-h.h in
-    let so_far = done ++ range_with_len 0 h in
-    let was = (c.loop-h.invariant setup order done rest at_first).1 in
-    let below : h < setup.harts = omega (arith, c.loop-h-test.true, c.len-h-end.ensures, at_first.at.harts) in
-    let later = range_with_len (h + 1) (setup.harts - (h + 1)) ++ rest in
-    let playing = playing_as setup order so_far so_far (range_with_len h (setup.harts - h) ++ rest) (h ∷ later) c.loop-h.self refl (ap (λ ns. ns ++ rest) (numbers_more h setup.harts below)) was in
-    stuck_from c.from_residual.result _ _ _ _ (err_from_is_err_and c.from_residual.result c.from_residual.ensures.1) (λ pc (stuck : first_unbuilt setup (reach setup (with_turns setup order so_far)) (turn_of setup (reach setup (with_turns setup order so_far)) h) ≡ Some pc). playing_stuck setup order so_far later h pc c.loop-h.self playing below stuck)
-    (c.in_err-turn.ensures setup (reach setup (with_turns setup order so_far)) playing.at)
+pub has_ended-requires : goal.has_ended-requires
+has_ended-requires c =
+    let first = c.requires in
+    (first.0, _, (c.loop-h.invariant first.0 first.1 first.2 first.3 first.4).1.at)
 
 pub turn-requires : goal.turn-requires
 turn-requires c =
@@ -43,12 +33,20 @@ loop-h-preserved c = λ setup order done rest at_first.
     let below : h < setup.harts = omega (arith, c.loop-h-test.true, c.len-h-end.ensures, at_first.at.harts) in
     let later = range_with_len (h + 1) (setup.harts - (h + 1)) ++ rest in
     let playing = playing_as setup order so_far so_far (range_with_len h (setup.harts - h) ++ rest) (h ∷ later) c.loop-h.self refl (ap (λ ns. ns ++ rest) (numbers_more h setup.harts below)) was in
-    let turned = c.in_ok-turn.ensures setup (reach setup (with_turns setup order so_far)) playing.at in (
-      omega (arith, below),
-      playing_as setup order (so_far ++ h ∷ []) (done ++ range_with_len 0 (h + 1)) later later c.turn.new.self
-          (append_assoc done (range_with_len 0 h) (h ∷ []) ∙ ap (λ ns. done ++ ns) (sym (range_with_len_push h))) refl
-          (playing_turn setup order so_far later h c.loop-h.self c.turn.new.self playing below turned),
-    )
+    let one_more = append_assoc done (range_with_len 0 h) (h ∷ []) ∙ ap (λ ns. done ++ ns) (sym (range_with_len_push h)) in
+    let tells = c.has_ended.ensures setup _ playing.at in
+    elim c.if-not-has_ended.branch [
+      | then-not-has_ended w ↦ (
+          omega (arith, below),
+          rw (w.self-is) (playing_as setup order (so_far ++ h ∷ []) (done ++ range_with_len 0 (h + 1)) later later _ one_more refl
+              (playing_turn setup order so_far later h c.loop-h.self _ playing (sym tells ∙ w.if-not-has_ended.true) (w.in_ok-turn.ensures setup _ playing.at))),
+        )
+      | else-not-has_ended w ↦ (
+          omega (arith, below),
+          rw (w.self-is) (playing_as setup order (so_far ++ h ∷ []) (done ++ range_with_len 0 (h + 1)) later later _ one_more refl
+              (playing_over setup order so_far later h c.loop-h.self playing (sym tells ∙ w.if-not-has_ended.false))),
+        )
+    ]
 
 pub returns : goal.returns
 returns c = λ setup order done rest at_first.

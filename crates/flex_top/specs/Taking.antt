@@ -1,0 +1,55 @@
+-- A file that is taken, and what it means: an image or an input, or the refusal of it.
+use Rattle.std.specs.Prelude.{◌≡◌, ℕ, ◌<◌, List, Option, None, Some, IfSome, Result, Ok, Err}
+use Rattle.flex_base.specs.Files.{Files}
+use Rattle.flex_base.specs.Loaded.{Loaded}
+use Rattle.image_loader.specs.Loading.{IsSameStart}
+use Rattle.image_loader.specs.declared.fault.ImageFault.TheVariants as image
+use Rattle.flex_top.specs.Answer.{file_among, image_limit, image_from, input_limit}
+use Rattle.flex_top.specs.declared.status.Status.{Status}
+use Rattle.flex_top.specs.declared.status.Status.TheVariants as status
+
+-- the file of this name, where files are told; else any
+abbrev pub IsFile : Option Files → Option (List ℕ) → Option (List ℕ) → Type 0
+IsFile held name file = IfSome held (λ files. file ≡ file_among name files)
+
+-- the file means this
+pub record Gives (A : Type 0) (held : Option Files) (name : Option (List ℕ)) (means : Option (List ℕ) → Result A Status) (value : A) : Type 0 where
+  pub file : Option (List ℕ)
+  pub told : IsFile held name file
+  pub is : means file ≡ Ok value
+
+-- the answer to a file is the refusal that it means; where there is one, a fault of its read and want of memory may come before
+abbrev pub Refuses : (A : Type 0) → Option (List ℕ) → Result A Status → Status → Type 0
+Refuses A None meaning why = meaning ≡ Err why
+Refuses A (Some file) meaning status.ReadFault = Unit {0}
+Refuses A (Some file) meaning status.OutOfMemory = Unit {0}
+Refuses A (Some file) meaning why = meaning ≡ Err why
+
+-- the file is refused so
+pub record IsRefused (A : Type 0) (held : Option Files) (name : Option (List ℕ)) (means : Option (List ℕ) → Result A Status) (why : Status) : Type 0 where
+  pub file : Option (List ℕ)
+  pub told : IsFile held name file
+  pub refuses : Refuses A file (means file) why
+
+-- the file of this name means an image in so much RAM with the same start as the code's
+pub record GivesImage (held : Option Files) (name : List ℕ) (ram : ℕ) (image : Loaded) : Type 0 where
+  pub start : Loaded
+  pub gives : Gives Loaded held (Some name) (λ file. image_from file ram) start
+  pub same : IsSameStart start image
+
+-- a status that refuses a file: one that is too long is so, and want of memory is no refusal of an image
+abbrev pub IsRefusal : Status → Type 0
+IsRefusal status.ReadFault = Unit {0}
+IsRefusal status.OutOfMemory = Unit {0}
+IsRefusal (status.ImageRefused (image.TooLong n)) = image_limit < n
+IsRefusal (status.ImageRefused image.OutOfMemory) = ⊥
+IsRefusal (status.ImageRefused why) = Unit {0}
+IsRefusal (status.InputTooLong n) = input_limit < n
+IsRefusal other = ⊥
+
+-- an answer of a run whose files aren't refused
+abbrev pub IsOfRun : Status → Type 0
+IsOfRun status.Ended = Unit {0}
+IsOfRun status.OutOfMemory = Unit {0}
+IsOfRun status.WriteFault = Unit {0}
+IsOfRun other = ⊥
