@@ -1,6 +1,6 @@
 pub mod Images
 pub mod Doing
-pub mod Leaving
+pub mod WhatIsLeft
 pub mod Taking
 pub mod Told
 pub mod WordsLemmas
