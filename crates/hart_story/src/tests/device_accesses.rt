@@ -19,12 +19,24 @@ fn accesses_of_devices_make_a_pulse_due(rt: HostRuntime) {
     let stored = 0x0123_4567_89ab_cdef;
     let table = [
         // lw and lwu x10, 0(x8)
-        (0x00042503, 0x8000_0001, dev_read(MSIP, 4), 10, 0xffff_ffff_8000_0001),
+        (
+            0x00042503,
+            0x8000_0001,
+            dev_read(MSIP, 4),
+            10,
+            0xffff_ffff_8000_0001,
+        ),
         (0x00046503, 0x8000_0001, dev_read(MSIP, 4), 10, 0x8000_0001),
         // ld x10, 0(x9)
         (0x0004b503, stored, dev_read(MTIME, 8), 10, stored),
         // lb and lbu x10, 0(x11)
-        (0x00058503, 0x80, dev_read(UART, 1), 10, 0xffff_ffff_ffff_ff80),
+        (
+            0x00058503,
+            0x80,
+            dev_read(UART, 1),
+            10,
+            0xffff_ffff_ffff_ff80,
+        ),
         (0x0005c503, 0x80, dev_read(UART, 1), 10, 0x80),
         // sw x5, 0(x8), sd x5, 0(x9) and sb x5, 0(x11)
         (0x00542023, 0, dev_write(MSIP, 4, 0x89ab_cdef), 0, 0),
@@ -75,7 +87,11 @@ fn assert_ends(
         first,
         second,
     };
-    assert_eq!(rt; make(rt, &mut hart, word, value), (needed, part), "{word:x}");
+    assert_eq!(rt;
+        make(rt, &mut hart, word, value),
+        (needed, part),
+        "{word:x}"
+    );
     assert_eq!(rt; hart.regs.due, due, "{word:x}");
 }
 

@@ -129,7 +129,9 @@ fn assert_form(rt: &impl Abort, access: &Access, reply: Reply)
         | Access::Lr { width, .. }
         | Access::Amo { width, .. }
         | Access::DevRead { width, .. } => assert_value(rt, width, reply),
-        Access::Write { .. } | Access::DevWrite { .. } | Access::Retire => assert!(rt; reply == Reply::with_value(0)),
+        Access::Write { .. } | Access::DevWrite { .. } | Access::Retire => assert!(rt;
+            reply == Reply::with_value(0)
+        ),
         Access::Sc { .. } => {
             assert_value(rt, 1, reply);
             assert!(rt; reply.value < 2);

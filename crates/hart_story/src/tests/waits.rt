@@ -45,11 +45,11 @@ fn wait(mie: u64) -> Need {
     Need::Ask(Access::Wait { mie }, Class::Pulse)
 }
 
-// It ends with the lines that the reply tells, whether it asked for a wait or a pulse. The interrupt
-// is none of WFI's own.
+// It ends with the lines that the reply tells, whether it asked for a wait or a pulse. No interrupt is
+// taken here, since mstatus has them off.
 fn goes_on_with(rt: &impl Abort, lines: u64) {
     for (mip, mie) in [(0, 0x888), (0x2, 0x2)] {
-        let hart = hart_in(Mode::S, &[(MIP, mip), (MIE, mie)]);
+        let hart = hart_in(Mode::M, &[(MIP, mip), (MIE, mie)]);
         let replies = [word(WFI), pulse_reply(lines)];
         assert_becomes(
             rt,
@@ -86,7 +86,14 @@ fn stays_parked(rt: &impl Abort, lines: u64) {
         assert_eq!(rt; (progress.is_parked(), progress.is_over()), (true, false));
         assert_eq!(rt; need(&hart, &progress, &layout, BUDGET), Need::Parked);
     }
-    answer(rt, &hart, &mut progress, &layout, BUDGET, pulse_reply(lines));
+    answer(
+        rt,
+        &hart,
+        &mut progress,
+        &layout,
+        BUDGET,
+        pulse_reply(lines),
+    );
     assert_eq!(rt; progress.is_parked(), false);
     let part = end(rt, &mut hart, progress, &layout, BUDGET);
     assert_eq!(rt; (part.class, part.next), (Class::System, 0x8000_0044));
