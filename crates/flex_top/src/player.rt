@@ -6,7 +6,7 @@ ghost use Rattle.flex_top.specs.Play.{AreStarted};
 use crate::memory::Memory;
 use crate::split_run::SplitRun;
 use flex_base::{Access, Class, HartId, Layout, Settings, Stop};
-use hart_story::{Hart, Need, Progress, finish, give, need};
+use hart_story::{Hart, Need, Progress, finish_in_place, give, need};
 use std::alloc::{AllocError, Global};
 use tracer::Tail;
 
@@ -219,8 +219,12 @@ impl Player {
                 Ok(Step::Accessed)
             }
             Need::Finish(class) => {
-                let part = finish(&mut self.harts[h], self.progress[h], &layout, budget);
-                self.progress[h] = Progress::begin();
+                let part = finish_in_place(
+                    &mut self.harts[h],
+                    &mut self.progress[h],
+                    &layout,
+                    budget,
+                );
                 self.run.add_end(hart, class, part)?;
                 Ok(Step::Ended)
             }

@@ -22,9 +22,9 @@ use Rattle.sv39.specs.IsAfter.{ahead, entries_left}
 use Rattle.sv39.specs.declared.walk.Walk.{Walk}
 use Rattle.hart_story.specs.Found.{state_at}
 use Rattle.hart_story.specs.Memory.{access_by, access_of, device_access_by, device_access_of, kind_of, reaching}
-use Rattle.hart_story.specs.Outcome.{outcome_of, is_end}
-use Rattle.hart_story.specs.Progress.{node_at, node, Reached, want_in, is_done, is_parked, IsAsking, leaves_over, IsIn}
-use Rattle.hart_story.specs.Stage.{stage_of, walking, has_begun, is_over_at, is_parked_at, tells_stop, IsReading, IsSoundStage}
+use Rattle.hart_story.specs.Outcome.{outcome_of, is_end, IsSoundOutcome}
+use Rattle.hart_story.specs.Progress.{node_at, node, Reached, want_in, is_done, is_parked, IsAsking, leaves_over, IsSoundProgress, IsIn}
+use Rattle.hart_story.specs.Stage.{stage_of, walking, has_begun, is_end_at, is_over_at, is_parked_at, tells_stop, IsReading, IsSoundStage}
 use Rattle.hart_story.specs.declared.hart.Hart.{Hart}
 use Rattle.hart_story.specs.declared.found.Found.{Found}
 use Rattle.hart_story.specs.declared.memory_work.MemoryOp.{MemoryOp}
@@ -35,6 +35,7 @@ use Rattle.hart_story.specs.declared.progress.Progress.{Progress}
 use Rattle.hart_story.specs.declared.stage.Stage.{Stage}
 use Rattle.hart_story.specs.declared.stage.Stage.TheVariants as stage
 use Rattle.hart_story.proofs.Committing.{comes_to_end}
+use Rattle.hart_story.proofs.Seeing.{node_begun}
 use Rattle.hart_story.proofs.Walking.{needs, some_left, walks_asks}
 
 -- the replies lead on by one
@@ -148,6 +149,30 @@ at_outcome setup a layout hart count (stage.Device address work) part after of b
 at_outcome setup a layout hart count (stage.Working made) part after of begun sound e =
     record { made = made; is = refl; end = comes_to_end a made part after e }
 at_outcome setup a layout hart count stage.Over part after of begun sound e = absurd cc
+
+ended_stage : (here : Stage) → IsAtOutcome here → is_end_at here ≡ true
+ended_stage here at =
+    let At : Stage → Type 0 = λ s. is_end_at s ≡ true in
+    subst At (sym at.is) at.end
+
+-- of an outcome that a stage is
+pub made_end : (here : Stage) (made : Outcome) → here ≡ stage.Working made → is_end_at here ≡ true → is_end made ≡ true
+made_end here made is end =
+    let At : Stage → Type 0 = λ s. is_end_at s ≡ true in
+    subst At is end
+
+pub made_sound : (layout : Layout) (hart : Hart) (count : ℕ) (here : Stage) (made : Outcome) → here ≡ stage.Working made → IsSoundStage layout hart count here
+    → IsSoundOutcome layout hart made
+made_sound layout hart count here made is sound =
+    let At : Stage → Type 0 = λ s. IsSoundStage layout hart count s in
+    subst At is sound
+
+-- an instruction that has begun and is at an end has come to it
+pub ends_at : (setup : Setup) (a : State) (layout : Layout) (hart : Hart) (p : Progress) (part : EndPart) (after : State) → setup.ram ≡ layout.ram
+    → has_begun p.stage ≡ true → IsSoundProgress layout hart p → want (node setup a p) ≡ Ends part after → is_end_at p.stage ≡ true
+ends_at setup a layout hart p part after of begun sound ends =
+    let there = sym (ap want (node_begun setup a p.lines p.found p.stage begun)) ∙ ends in
+    ended_stage p.stage (at_outcome setup (state_at a p.lines p.found) layout hart p.found.count p.stage part after of begun sound.stage there)
 
 -- Whether a hart is then over.
 

@@ -19,7 +19,7 @@ use Rattle.sv39.specs.declared.walk.Walk.{Walk}
 use Rattle.hart_story.specs.Found.{Sees, leaves_of}
 use Rattle.hart_story.specs.Memory.{kind_of, reaching, access_of, asking, device_access_of, asking_device, IsMemoryWork, IsAlignedWork}
 use Rattle.hart_story.specs.Need.{IsReservedFor}
-use Rattle.hart_story.specs.Outcome.{IsOf, outcome_of, IsSoundOutcome}
+use Rattle.hart_story.specs.Outcome.{IsOf, outcome_of, is_end, IsSoundOutcome}
 use Rattle.hart_story.specs.declared.found.Found.{Found}
 use Rattle.hart_story.specs.declared.hart.Hart.{Hart}
 use Rattle.hart_story.specs.declared.memory_work.MemoryWork.{MemoryWork}
@@ -97,6 +97,11 @@ left_at stage.Over = 0
 abbrev pub has_begun : Stage → Bool
 has_begun stage.Begun = false
 has_begun other = true
+
+-- the instruction has come to its end
+abbrev pub is_end_at : Stage → Bool
+is_end_at (stage.Working made) = is_end made
+is_end_at other = false
 
 -- the hart has nothing left to do
 abbrev pub is_over_at : Stage → Bool

@@ -23,7 +23,7 @@ mod work;
 
 pub use hart::Hart;
 pub use progress::{Need, Progress};
-pub use story::{finish, give, need};
+pub use story::{finish, finish_in_place, give, need};
 
 #[cfg(test)]
 mod tests;

@@ -13,9 +13,10 @@ pub struct Progress {
 }
 
 impl Progress {
-    ghost use Rattle.std.specs.Prelude.{◌≡◌};
+    ghost use Rattle.std.specs.Prelude.{◌≡◌, true};
     ghost use Rattle.hart_story.specs.Progress.{begun, is_done, is_parked};
-    ghost use Rattle.hart_story.specs.Stage.{has_begun};
+    ghost use Rattle.hart_story.specs.Stage.{has_begun, is_end_at};
+    ghost use Rattle.hart_story.specs.declared.stage.Stage.TheVariants as Stage;
 
     /// The beginning of an instruction.
     pub fn begin() -> Progress
@@ -32,6 +33,17 @@ impl Progress {
         ensures { result ≡ has_begun self.now.stage }
     {
         !matches!(self.stage, Stage::Begun)
+    }
+
+    // The outcome by which the instruction ends.
+    pub(crate) fn outcome(&self) -> &Outcome
+        requires { is_end_at self.now.stage ≡ true }
+        ensures { self.now.stage ≡ Stage.Working result.now }
+    {
+        match &self.stage {
+            Stage::Working(outcome) => outcome,
+            _ => unreachable!(),
+        }
     }
 
     /// Whether the hart has nothing left to do: it has spent its budget, or was told to stop.

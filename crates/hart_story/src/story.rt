@@ -22,9 +22,9 @@ ghost use Rattle.hart_story.specs.Found.{leaves_of, state_at};
 ghost use Rattle.hart_story.specs.Memory.{access_of, asking, device_access_of, asking_device, IsMemoryWork};
 ghost use Rattle.hart_story.specs.Need.{need_of, AsksPlaced, NeedsReserved};
 ghost use Rattle.hart_story.specs.Outcome.{IsOf, outcome_of, is_end, IsSoundOutcome};
-ghost use Rattle.hart_story.specs.Progress.{node, left, is_done, is_parked, IsSoundProgress, IsHere, IsIn, want_in, IsAsking, leaves_over, IsEnding, EndsWith, own_in};
+ghost use Rattle.hart_story.specs.Progress.{node, left, is_done, is_parked, IsSoundProgress, IsHere, IsIn, want_in, IsAsking, leaves_over, IsEnding, EndsWith, own_in, begun};
 ghost use Rattle.hart_story.specs.StandsFor.{StandsFor, Shows};
-ghost use Rattle.hart_story.specs.Stage.{stage_of, has_begun, walking, left_at, is_over_at, is_parked_at, tells_stop, IsReading, IsSoundAccess, IsSoundStage};
+ghost use Rattle.hart_story.specs.Stage.{stage_of, has_begun, is_end_at, walking, left_at, is_over_at, is_parked_at, tells_stop, IsReading, IsSoundAccess, IsSoundStage};
 ghost use Rattle.hart_story.specs.Translated.{translated_of, state_after, entries_in, fetch_left, IsSoundTranslated};
 
 use crate::causes::INSTRUCTION_ACCESS_FAULT;
@@ -102,58 +102,50 @@ pub fn finish(hart: &mut Hart, progress: Progress, layout: &Layout, budget: u64)
         → IsOwn (own_in setup i) hart.new.regs.reservation }
     ensures count { hart.new.regs.ends ≡ hart.old.regs.ends + 1 }
 {
-    let ending = at_end(hart, progress, layout);
-    ending.found.keep_in(&mut hart.kept);
-    commit(hart, ending.lines, &ending.outcome)
+    let mut progress = progress;
+    finish_in_place(hart, &mut progress, layout, budget)
 }
 
-// The end of an instruction: its outcome, the interrupt lines by then, and what its walks have
-// found.
-#[derive(Clone, Copy)]
-struct Ending {
-    lines: u64,
-    found: Found,
-    outcome: Outcome,
+/// Ends the instruction as `finish` does, and the progress is at the beginning of the next one. A
+/// progress is not copied for it.
+pub fn finish_in_place(
+    hart: &mut Hart,
+    progress: &mut Progress,
+    layout: &Layout,
+    budget: u64,
+) -> EndPart
+    requires { (setup : Setup) × (i : Instruction) × (part : EndPart) × (after : State)
+        × IsIn setup i hart.old progress.old layout.now budget × IsEnding setup i part after }
+    ensures ends { (setup : Setup) (i : Instruction) (part : EndPart) (after : State)
+        → IsIn setup i hart.old progress.old layout.now budget → IsEnding setup i part after
+        → EndsWith setup (want_in setup i) result hart.new }
+    ensures reservation { (setup : Setup) (i : Instruction) (part : EndPart) (after : State)
+        → IsIn setup i hart.old progress.old layout.now budget → IsEnding setup i part after
+        → IsOwn (own_in setup i) hart.new.regs.reservation }
+    ensures count { hart.new.regs.ends ≡ hart.old.regs.ends + 1 }
+    ensures begun { progress.new ≡ begun }
+{
+    reach_end(hart, progress, layout);
+    progress.found.keep_in(&mut hart.kept);
+    let part = commit(hart, progress.lines, progress.outcome());
+    *progress = Progress::begin();
+    part
 }
 
 // An instruction may end where it begins: an interrupt is taken, or the fetch is an exception.
-fn at_end(hart: &Hart, progress: Progress, layout: &Layout) -> Ending
+fn reach_end(hart: &Hart, progress: &mut Progress, layout: &Layout)
     requires { (setup : Setup) × (i : Instruction) × (part : EndPart) × (after : State) × (budget : ℕ)
-        × IsIn setup i hart.now progress layout.now budget × IsEnding setup i part after }
+        × IsIn setup i hart.now progress.old layout.now budget × IsEnding setup i part after }
     ensures node { (setup : Setup) (i : Instruction) (part : EndPart) (after : State) (budget : ℕ)
-        → IsIn setup i hart.now progress layout.now budget → IsEnding setup i part after
-        → node setup i.state progress ≡ outcome_of (state_at i.state result.lines result.found) result.outcome }
-    ensures sound { IsSoundOutcome layout.now hart.now result.outcome }
-    ensures found { AreLeaves (leaves_of result.found) }
-    ensures end { is_end result.outcome ≡ true }
+        → IsIn setup i hart.now progress.old layout.now budget → IsEnding setup i part after
+        → node setup i.state progress.old ≡ node setup i.state progress.new }
+    ensures sound { IsSoundProgress layout.now hart.now progress.new }
+    ensures end { is_end_at progress.new.stage ≡ true }
 {
     if progress.has_begun() {
-        return ending_of(hart, progress, layout);
+        return;
     }
-    let mut begun = progress;
-    begin(hart, &mut begun, layout, hart.regs.lines);
-    ending_of(hart, begun, layout)
-}
-
-fn ending_of(hart: &Hart, progress: Progress, layout: &Layout) -> Ending
-    requires sound { IsSoundProgress layout.now hart.now progress }
-    requires begun { has_begun progress.stage ≡ true }
-    requires ends { (setup : Setup) × (a : State) × (part : EndPart) × (after : State)
-        × (setup.ram ≡ layout.now.ram) × (want (node setup a progress) ≡ Ends part after) }
-    ensures node { (setup : Setup) (a : State)
-        → node setup a progress ≡ outcome_of (state_at a result.lines result.found) result.outcome }
-    ensures sound { IsSoundOutcome layout.now hart.now result.outcome }
-    ensures found { AreLeaves (leaves_of result.found) }
-    ensures end { is_end result.outcome ≡ true }
-{
-    match progress.stage {
-        Stage::Working(outcome) => Ending {
-            lines: progress.lines,
-            found: progress.found,
-            outcome,
-        },
-        _ => unreachable!(),
-    }
+    begin(hart, progress, layout, hart.regs.lines);
 }
 
 // After its pulse, if it makes one, the instruction begins with these interrupt lines: an interrupt
