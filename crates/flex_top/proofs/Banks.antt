@@ -64,15 +64,15 @@ is_here harts ram bank access alone is placed =
 pub serves_ram : (setup : Setup) (ram acted : List Done) (old new : Memory) (h : ℕ) (access : Access) (reply : Reply) → is_ram_access access ≡ true
     → IsSame old.lines new.lines → new.devices ≡ old.devices → Serves setup ram acted old → IsReplay setup (with_access ram h access reply) new.lines
     → Serves setup (ram_after ram h access reply) (devices_after acted h access reply) new
-serves_ram setup ram acted old new h access reply is same devices serves replay =
+serves_ram setup ram acted old new h access reply is same untouched serves replay =
     let acted_on : devices_after acted h access reply ≡ acted = ap (λ b. if b then acted else with_access acted h access reply) is in
     let Replays : List Done → Type 0 = λ made. devices.IsReplay setup.harts setup.input made new.devices in
     let Of : DevicesView → Type 0 = λ d. devices.IsReplay setup.harts setup.input acted d in
     record {
       ram = keeps_ram setup ram old.lines new.lines h access reply is same serves.ram replay;
-      devices = subst Replays (sym acted_on) (subst Of (sym devices) serves.devices);
-      keeps = ap (λ (d : DevicesView). d.console.keeps) devices ∙ serves.keeps;
-      room = ap (λ (d : DevicesView). d.console.room) devices ∙ serves.room;
+      devices = subst Replays (sym acted_on) (subst Of (sym untouched) serves.devices);
+      keeps = ap (λ (d : DevicesView). d.console.keeps) untouched ∙ serves.keeps;
+      room = ap (λ (d : DevicesView). d.console.room) untouched ∙ serves.room;
     }
 
 pub serves_device : (setup : Setup) (ram acted : List Done) (old new : Memory) (h : ℕ) (access : Access) (reply : Reply) → is_ram_access access ≡ false

@@ -27,10 +27,10 @@ use Rattle.flex_base.proofs.Machines.{reach_push, next_ends, step_is, instructio
 use Rattle.flex_base.proofs.Turns.{turn_of-asks, turn_of-woken, ended_all, ended_not}
 use Rattle.flex_base.proofs.Standing.{woken_told}
 use Rattle.flex_base.proofs.Console.{sent_room}
-use Rattle.hart_story.specs.Progress.{IsIn, begun, is_parked}
+use Rattle.hart_story.specs.Progress.{IsIn, begun, is_done, is_parked}
 use Rattle.hart_story.specs.declared.hart.Hart.{Hart}
 use Rattle.hart_story.specs.declared.progress.Progress.{Progress}
-use Rattle.hart_story.proofs.Asking.{waits_parked}
+use Rattle.hart_story.proofs.Asking.{waits_parked, idle_is}
 use Rattle.hart_story.proofs.Needing.{wants_asked, parked_asked}
 use Rattle.devices.specs.View.{DevicesView, ConsoleView, has_room, HasRoom, most_kept, room_for}
 use Rattle.flex_top.specs.Memory.{Serves, ram_after, devices_after}
@@ -190,6 +190,13 @@ each_by setup u v player next h i at instructions harts fars here k other below 
       (ap (λ (xs : List Instruction). get_or xs k (instruction_from (start k 0))) instructions ∙ get_or-set_other u.harts h k i (instruction_from (start k 0)) apart)
       (harts k other apart) (fars k apart) (at.each k other below)
 ]
+
+-- whether it makes no event by itself
+pub idle_at : (setup : Setup) (u : Machine) (player : Player) (h : ℕ) → IsAt setup u player → h < length player.harts.items
+    → is_idle (want_of setup u h) ≡ (is_done (progress_at player h) || is_parked (progress_at player h))
+idle_at setup u player h at within =
+    let hart = some_hart player.harts.items (omega (arith, within)) in
+    idle_is setup (instruction_at u h) (get_or player.harts.items h hart) (progress_at player h) (layout_of (settings_of setup)) setup.budget (at.each h hart (omega (arith, within, at.harts)))
 
 -- The player after an access.
 

@@ -5,6 +5,7 @@ use Rattle.std.proofs.lemmas.Bool.Decides.{nat_tests}
 use Rattle.std.proofs.lemmas.List.{length-replicate}
 use Rattle.flex_base.specs.Files.{Files, Taken}
 use Rattle.flex_base.specs.Loaded.{Loaded}
+use Rattle.flex_base.specs.declared.outer.TakeFault.{TakeFault}
 use Rattle.flex_base.specs.declared.outer.TakeFault.TheVariants as fault
 use Rattle.image_loader.specs.Faults.{is_of_file}
 use Rattle.image_loader.specs.Loading.{loaded}
@@ -13,7 +14,7 @@ use Rattle.image_loader.specs.declared.fault.ImageFault.TheVariants as image
 use Rattle.flex_top.specs.Answer.{or_refusal, image_limit, image_in, image_from, input_limit, input_from}
 use Rattle.flex_top.specs.Images as images
 use Rattle.flex_top.specs.Images.{IsTaken}
-use Rattle.flex_top.specs.Taking.{IsFile, Gives, Refuses, IsRefused, GivesImage, IsRefusal}
+use Rattle.flex_top.specs.Taking.{IsFile, Gives, Refuses, IsRefused, GivesImage, IsRefusal, answer_to}
 use Rattle.flex_top.specs.declared.status.Status.{Status}
 use Rattle.flex_top.specs.declared.status.Status.TheVariants as status
 use Rattle.flex_top.proofs.Doing.{file_held, told_file}
@@ -31,6 +32,12 @@ past file limit over = grind (arith, nat_tests)
 
 image_within : (file : List ℕ) (ram : ℕ) → length file ≤ image_limit → image_from (Some file) ram ≡ image_in file ram
 image_within file ram fits = ap (λ b. if b then Err (status.ImageRefused (image.TooLong (length file))) else image_in file ram) (within file image_limit fits)
+
+-- by the fault that it has
+pub taken_as : (held : Option Files) (name : List ℕ) (limit : ℕ) (why other : TakeFault) → why ≡ other → Taken held name limit (Err why) → Taken held name limit (Err other)
+taken_as held name limit why other is took =
+    let At : TakeFault → Type 0 = λ f. Taken held name limit (Err f) in
+    subst At is took
 
 -- Given.
 
@@ -146,3 +153,41 @@ image_wanting held name file ram took = record { file = Some file; told = told_t
 -- a fault of the file is a refusal
 pub faulty_refusal : (file : List ℕ) (ram : ℕ) (why : ImageFault) → images.IsRefused file ram why → why ≢ image.OutOfMemory → IsRefusal (status.ImageRefused why)
 faulty_refusal file ram why refused other = refusal_of why (found_fault file ram why refused other).1
+
+pub answer_other : (why : ImageFault) → why ≢ image.OutOfMemory → status.ImageRefused why ≡ answer_to why
+answer_other image.OutOfMemory other = absurd (other refl)
+answer_other image.Short other = refl
+answer_other image.NotElf64Little other = refl
+answer_other (image.NotExec n) other = refl
+answer_other (image.NotRiscv n) other = refl
+answer_other image.BadHeaderSize other = refl
+answer_other image.TableOutside other = refl
+answer_other (image.SegmentOutsideFile n) other = refl
+answer_other (image.FileOverMemory n) other = refl
+answer_other (image.SegmentOutsideRam n) other = refl
+answer_other (image.BadEntry n) other = refl
+answer_other (image.TooLong n) other = refl
+
+-- what is answered to a file that isn't loaded
+abbrev pub IsAnswered : Option Files → List ℕ → ℕ → Status → Type 0
+IsAnswered held name ram why = IsRefused Loaded held (Some name) (λ o. image_from o ram) why × IsRefusal why
+
+faulty : (held : Option Files) (name file : List ℕ) (ram : ℕ) (why : ImageFault) → Taken held name image_limit (Ok file) → length file ≤ image_limit → images.IsRefused file ram why
+    → why ≢ image.OutOfMemory → IsAnswered held name ram (status.ImageRefused why)
+faulty held name file ram why took fits refused other =
+    (image_faulty held name file ram why took fits refused other, faulty_refusal file ram why refused other)
+
+pub answered : (held : Option Files) (name file : List ℕ) (ram : ℕ) (why : ImageFault) → Taken held name image_limit (Ok file) → length file ≤ image_limit → images.IsRefused file ram why
+    → IsAnswered held name ram (answer_to why)
+answered held name file ram image.OutOfMemory took fits refused = (image_wanting held name file ram took, tt)
+answered held name file ram image.Short took fits refused = faulty held name file ram image.Short took fits refused (λ e. cc)
+answered held name file ram image.NotElf64Little took fits refused = faulty held name file ram image.NotElf64Little took fits refused (λ e. cc)
+answered held name file ram (image.NotExec n) took fits refused = faulty held name file ram (image.NotExec n) took fits refused (λ e. cc)
+answered held name file ram (image.NotRiscv n) took fits refused = faulty held name file ram (image.NotRiscv n) took fits refused (λ e. cc)
+answered held name file ram image.BadHeaderSize took fits refused = faulty held name file ram image.BadHeaderSize took fits refused (λ e. cc)
+answered held name file ram image.TableOutside took fits refused = faulty held name file ram image.TableOutside took fits refused (λ e. cc)
+answered held name file ram (image.SegmentOutsideFile n) took fits refused = faulty held name file ram (image.SegmentOutsideFile n) took fits refused (λ e. cc)
+answered held name file ram (image.FileOverMemory n) took fits refused = faulty held name file ram (image.FileOverMemory n) took fits refused (λ e. cc)
+answered held name file ram (image.SegmentOutsideRam n) took fits refused = faulty held name file ram (image.SegmentOutsideRam n) took fits refused (λ e. cc)
+answered held name file ram (image.BadEntry n) took fits refused = faulty held name file ram (image.BadEntry n) took fits refused (λ e. cc)
+answered held name file ram (image.TooLong n) took fits refused = faulty held name file ram (image.TooLong n) took fits refused (λ e. cc)

@@ -3,6 +3,7 @@ use Rattle.std.specs.Prelude.{◌≡◌, ℕ, ◌<◌, List, Option, None, Some,
 use Rattle.flex_base.specs.Files.{Files}
 use Rattle.flex_base.specs.Loaded.{Loaded}
 use Rattle.image_loader.specs.Loading.{IsSameStart}
+use Rattle.image_loader.specs.declared.fault.ImageFault.{ImageFault}
 use Rattle.image_loader.specs.declared.fault.ImageFault.TheVariants as image
 use Rattle.flex_top.specs.Answer.{file_among, image_limit, image_from, input_limit}
 use Rattle.flex_top.specs.declared.status.Status.{Status}
@@ -46,6 +47,11 @@ IsRefusal (status.ImageRefused image.OutOfMemory) = ⊥
 IsRefusal (status.ImageRefused why) = Unit {0}
 IsRefusal (status.InputTooLong n) = input_limit < n
 IsRefusal other = ⊥
+
+-- the answer to a file that isn't loaded: want of memory is no refusal of the image
+abbrev pub answer_to : ImageFault → Status
+answer_to image.OutOfMemory = status.OutOfMemory
+answer_to why = status.ImageRefused why
 
 -- an answer of a run whose files aren't refused
 abbrev pub IsOfRun : Status → Type 0

@@ -2,7 +2,7 @@ ghost use Rattle.std.specs.Prelude.{◌≡◌, ◌<◌, ℕ, List, Some, true, o
 ghost use Rattle.flex_base.specs.Loaded.{Loaded, image_fits};
 ghost use Rattle.flex_base.specs.Outside.{OnlyReads};
 ghost use Rattle.flex_top.specs.Answer.{image_from, input_from};
-ghost use Rattle.flex_top.specs.Taking.{Gives, IsRefused, GivesImage, IsRefusal};
+ghost use Rattle.flex_top.specs.Taking.{Gives, IsRefused, GivesImage, IsRefusal, answer_to};
 
 use crate::image::image_of;
 use crate::status::Status;
@@ -39,8 +39,18 @@ pub(crate) fn take_image<O: Outer>(
     };
     match image_of(alloc, file, ram) {
         Ok(image) => Ok(image),
-        Err(ImageFault::OutOfMemory) => Err(Status::OutOfMemory),
-        Err(fault) => Err(Status::ImageRefused(fault)),
+        Err(fault) => Err(answer_to(fault)),
+    }
+}
+
+// The answer to a file that isn't loaded: want of memory is no refusal of the image.
+#[tactic(auto, using(crate::proofs::Taking::answer_other))]
+fn answer_to(fault: ImageFault) -> Status
+    ensures { result ≡ answer_to fault }
+{
+    match fault {
+        ImageFault::OutOfMemory => Status::OutOfMemory,
+        fault => Status::ImageRefused(fault),
     }
 }
 
@@ -51,9 +61,9 @@ pub(crate) fn take_input<O: Outer>(
     outer: &mut O,
 ) -> Result<Vec<u8>, Status>
     ensures gives { IfOk result (λ input.
-        Gives (List ℕ) (O.outside outer.old).held (option_map (λ text. text.now) name) input_from input.items) }
+        Gives (List ℕ) (O.outside outer.old).held (option_map (λ text. text.now) name.entry) input_from input.items) }
     ensures refused { IfErr result (λ why.
-        IsRefused (List ℕ) (O.outside outer.old).held (option_map (λ text. text.now) name) input_from why) }
+        IsRefused (List ℕ) (O.outside outer.old).held (option_map (λ text. text.now) name.entry) input_from why) }
     ensures refusal { IfErr result IsRefusal }
     ensures frame { OnlyReads (O.outside outer.old) (O.outside outer.new) (IsErrOf result Status.ReadFault) }
 {

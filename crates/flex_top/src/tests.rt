@@ -1,4 +1,4 @@
-mod devices;
+mod device_programs;
 mod images;
 mod programs;
 

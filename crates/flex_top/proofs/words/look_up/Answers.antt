@@ -15,9 +15,9 @@ loop-word-preserved c =
     let At : List (List ℕ) → Type 0 = λ found. IsGiven found c.match-value_of.given in
     elim c.match-value_of.branch [
       | in-Some w ↦
-          let value : value_of name word ≡ Some w.in-Some.value.now = ap (value_of name) (sym c.as_str.ensures) ∙ sym w.in-Some.ensures in
+          let value : value_of name word ≡ Some w.in-Some.value.now = ap (value_of name) (sym c.as_str.ensures.value) ∙ sym w.in-Some.ensures in
           subst At (sym (ap (values name) more ∙ values_some name before word w.in-Some.value.now value)) (rw (w.given-is) (w.once_more-given.ensures (values name before) c.loop-word.invariant))
       | in_default w ↦
-          let value : value_of name word ≡ None = ap (value_of name) (sym c.as_str.ensures) ∙ sym w.in_default.ensures in
+          let value : value_of name word ≡ None = ap (value_of name) (sym c.as_str.ensures.value) ∙ sym w.in_default.ensures in
           subst At (sym (ap (values name) more ∙ values_none name before word value)) (rw (w.given-is) c.loop-word.invariant)
     ]

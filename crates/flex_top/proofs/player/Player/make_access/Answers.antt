@@ -26,11 +26,11 @@ give-requires c =
     let u = next.1 in
     let h = c.args.h in
     let below : h < setup.harts = omega (arith, c.requires.hart, next.2.harts) in
-    let there = in_hart setup u c.args.self.now h c.index.result.now c.index_mut.result.now c.layout.result next.2 below c.index.ensures c.index_mut.ensures.value c.layout.ensures in
+    let there = in_hart setup u c.args.self.now h c.index.result.now c.index_mut.result.now c.layout-layout.result next.2 below c.index.ensures c.index_mut.ensures.value c.layout-layout.ensures in
     (setup, instruction_at u h, c.args.access, there, asked_next setup u h c.args.access next.3, c.act-reply.ensures.form)
 
-pub returns-in_ok-add_access-clause-at : goal.returns-in_ok-add_access-clause-at
-returns-in_ok-add_access-clause-at c = λ setup u at asks.
+pub returns-clause-at : goal.returns-clause-at
+returns-clause-at c = λ setup u at asks.
     let player = c.args.self.now in
     let h = c.args.h in
     let below : h < setup.harts = omega (arith, c.requires.hart, at.harts) in
@@ -38,18 +38,18 @@ returns-in_ok-add_access-clause-at c = λ setup u at asks.
     let access = c.args.access in
     let i = instruction_at u h in
     let reply : c.act-reply.result ≡ reply_to setup u h access = c.act-reply.ensures.reply setup u at.memory in
-    let there = in_hart setup u player h c.index.result.now c.index_mut.result.now c.layout.result at below c.index.ensures c.index_mut.ensures.value c.layout.ensures in
-    let After : Reply → Type 0 = λ r. IsIn setup (record i { replies = i.replies ++ r ∷ [] }) c.index.result.now c.give.new.progress c.layout.result player.settings.budget in
+    let there = in_hart setup u player h c.index.result.now c.index_mut.result.now c.layout-layout.result at below c.index.ensures c.index_mut.ensures.value c.layout-layout.ensures in
+    let After : Reply → Type 0 = λ r. IsIn setup (record i { replies = i.replies ++ r ∷ [] }) c.index.result.now c.give.new.progress c.layout-layout.result player.settings.budget in
     let given = subst After reply (c.give.ensures.reached setup i access there (asked_next setup u h access asks)) in
     let Of : Hart → Type 0 = λ x. IsIn setup (record i { replies = i.replies ++ reply_to setup u h access ∷ [] }) x c.give.new.progress (layout_of (settings_of setup)) setup.budget in
-    let hart = λ (other : Hart). subst Of (sym (hart_read player.harts.items h c.index.result.now other in_harts c.index.ensures)) (in_setup setup u player _ _ _ _ at c.layout.ensures given) in
+    let hart = λ (other : Hart). subst Of (sym (hart_read player.harts.items h c.index.result.now other in_harts c.index.ensures)) (in_setup setup u player _ _ _ _ at c.layout-layout.ensures given) in
     let Kept : Reply → Type 0 = λ r. Serves setup (ram_after u.ram h access r) (devices_after u.devices h access r) c.act-reply.new.self in
     let memory = subst Kept reply (c.act-reply.ensures.serves setup u at.memory) in
     let run = c.in_ok-add_access.ensures.event ∙ ap (λ r. split_event default_plan (splitting_of player.run) (does h (what.Acc access r))) reply in
     at_access setup u player _ h access c.give.new.progress below at asks hart refl refl refl memory c.in_ok-add_access.ensures.size run
 
-pub returns-in_ok-add_access-clause-nearer : goal.returns-in_ok-add_access-clause-nearer
-returns-in_ok-add_access-clause-nearer c =
+pub returns-clause-nearer : goal.returns-clause-nearer
+returns-clause-nearer c =
     let next = c.requires.next in
     let setup = next.0 in
     let u = next.1 in
@@ -60,8 +60,8 @@ returns-in_ok-add_access-clause-nearer c =
     let below : h < setup.harts = omega (arith, c.requires.hart, at.harts) in
     let in_progress : h < length player.progress.items = omega (arith, below, at.progress) in
     let reply : c.act-reply.result ≡ reply_to setup u h access = c.act-reply.ensures.reply setup u at.memory in
-    let there = in_setup setup u player _ _ _ _ at c.layout.ensures
-    (in_hart setup u player h c.index.result.now c.index_mut.result.now c.layout.result at below c.index.ensures c.index_mut.ensures.value c.layout.ensures) in
+    let there = in_setup setup u player _ _ _ _ at c.layout-layout.ensures
+    (in_hart setup u player h c.index.result.now c.index_mut.result.now c.layout-layout.result at below c.index.ensures c.index_mut.ensures.value c.layout-layout.ensures) in
     let nearer : left c.give.new.progress < left c.index_mut.result.now =
     nearer_next setup u h access c.index.result.now c.index_mut.result.now _ below next.3 there c.give.ensures.nearer
     (λ other. c.give.ensures.woken (λ one. other (ap (λ (r : Reply). r.value) (sym reply) ∙ one))) in
