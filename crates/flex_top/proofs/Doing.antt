@@ -1,6 +1,6 @@
 -- What a command does, by what the outside gave and what came of the run.
 use Rattle.std.proofs.Common.{◌≡◌, ◌≢◌, ℕ, ◌<◌, List, [], Option, None, Some, Result, Ok, Err, inl, inr, refl, ap, sym, subst, ◌∙◌, arith}
-use Rattle.std.specs.Prelude.{IfSome}
+use Rattle.std.specs.Prelude.{IfSome, IsErrOf}
 use Rattle.flex_base.specs.Files.{Files, Counts, ChangesFile, ChangesText, Said, SaidPart}
 use Rattle.flex_base.specs.Loaded.{Loaded}
 use Rattle.flex_base.specs.Outside.{Outside, OnlyReads, Writes}
@@ -67,6 +67,20 @@ reads_after old mid new Fails Fails' first unfailed second =
       held = second.held ∙ first.held;
       written = second.written ∙ first.written;
       said = second.said ∙ first.said;
+    }
+
+-- a read that failed was answered so
+pub read_failed : (T : Type 0) (old new : Outside) (why : Status) → OnlyReads old new (IsErrOf {T = T} {E = Status} (Err why) status.ReadFault) → OnlyReads old new (why ≡ status.ReadFault)
+read_failed T old new why took =
+    let Failed : Type 0 = IsErrOf {T = T} {E = Status} (Err why) status.ReadFault in
+    let to : Failed → why ≡ status.ReadFault = λ fails. cc in
+    let from : why ≡ status.ReadFault → Failed = λ fails. ap Err fails in
+    record {
+      cause = record { no_fall = took.cause.no_fall; failed = λ fails. took.cause.failed (from fails); calm = λ unfailed. took.cause.calm (λ fails. unfailed (to fails)) };
+      write_faults = took.write_faults;
+      held = took.held;
+      written = took.written;
+      said = took.said;
     }
 
 -- Refusals.

@@ -82,7 +82,7 @@ fn push_meaning(line: &mut Line, status: &Status)
 fn push_numbered(line: &mut Line, text: &[u8], number: u64)
     requires short { length text.now ≤ 15 }
     requires fits { length line.old + 35 ≤ 128 }
-    ensures text { line.new ≡ line.old ++ text.now ++ decimal number }
+    ensures text { line.new ≡ line.old ++ (text.now ++ decimal number) }
     ensures room { length line.new ≤ length line.old + 35 }
 {
     line.push(text);

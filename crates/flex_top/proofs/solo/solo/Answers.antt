@@ -12,7 +12,7 @@ use Rattle.flex_top.proofs.solo.solo.Goals as goal
 
 pub play-requires : goal.play-requires
 play-requires g c =
-    (setup_of c.args.image c.args.input.items c.args.command.now.settings, (c.in-Ok.ensures c.args.image (same_itself c.args.image)).at)
+    record { at = (setup_of c.args.image c.args.input.items c.args.command.now.settings, (c.in-Ok.ensures c.args.image (same_itself c.args.image)).at) }
 
 pub fill_tail-requires : goal.fill_tail-requires
 fill_tail-requires g c =

@@ -1,5 +1,5 @@
 -- After the order the rounds, until the run has ended or all of them are made.
-use Rattle.std.proofs.Common.{◌-◌, ◌+◌, refl, sym, ap, arith, ◌∙◌}
+use Rattle.std.proofs.Common.{◌-◌, ◌+◌, ◌<◌, refl, sym, ap, arith, ◌∙◌}
 use Rattle.flex_base.specs.Unsplit.{hart_numbers}
 use Rattle.flex_base.specs.Rounds.{repeated, most_rounds}
 use Rattle.flex_top.proofs.Rounds.{playing_rounds, playing_round, playing_as, repeated_push, played_all, played_over}
@@ -23,7 +23,7 @@ round-requires c =
     let setup = c.requires.at.0 in
     let reached = c.in_ok-follow.ensures setup c.requires.at.1 in
     (setup, c.args.order.now, _, _, playing_round setup c.args.order.now c.rounds.counter c.rounds.self
-    (omega (arith, c.rounds-test.true, c.most_rounds.ensures setup _ reached)) (c.rounds.invariant setup c.requires.at.1))
+    (omega (arith, c.rounds-test.true, c.most_rounds-end.ensures setup _ reached)) (c.rounds.invariant setup c.requires.at.1))
 
 pub rounds-preserved : goal.rounds-preserved
 rounds-preserved c = λ setup at.
@@ -31,11 +31,11 @@ rounds-preserved c = λ setup at.
     let k = c.rounds.counter in
     let numbers = hart_numbers setup in
     let rest = repeated (most_rounds setup - (k + 1)) numbers in
-    let below = omega (arith, c.rounds-test.true, c.most_rounds.ensures setup _ (c.in_ok-follow.ensures setup at)) in
+    let below : k < most_rounds setup = omega (arith, c.rounds-test.true, c.most_rounds-end.ensures setup _ (c.in_ok-follow.ensures setup at)) in
     let playing = playing_round setup order k c.rounds.self below (c.rounds.invariant setup at) in
     playing_as setup order _ _ rest rest c.round.new.self (repeated_push k numbers) refl (c.in_ok-round.ensures setup order (repeated k numbers) rest playing)
 
 pub returns : goal.returns
 returns c = λ setup at.
     played_all setup c.args.order.now c.rounds.counter c.rounds.self
-    (omega (arith, c.rounds-test.false, c.most_rounds.ensures setup _ (c.in_ok-follow.ensures setup at))) (c.rounds.invariant setup at)
+    (omega (arith, c.rounds-test.false, c.most_rounds-end.ensures setup _ (c.in_ok-follow.ensures setup at))) (c.rounds.invariant setup at)

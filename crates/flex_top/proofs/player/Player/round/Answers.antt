@@ -5,6 +5,7 @@ use Rattle.flex_base.specs.Unsplit.{hart_numbers}
 use Rattle.flex_base.proofs.Orders.{range_with_len_push}
 use Rattle.flex_top.proofs.Rounds.{playing_turn, playing_over, playing_as, numbers_more, numbers_all}
 use Rattle.flex_top.proofs.player.Player.round.Goals as goal
+use Rattle.flex_top.proofs.player.Player.round.Goals.{then-not-has_ended+in_ok-turn, else-not-has_ended}
 
 pub loop-h-init : goal.loop-h-init
 loop-h-init c = λ setup order done rest at_first.
@@ -36,7 +37,7 @@ loop-h-preserved c = λ setup order done rest at_first.
     let one_more = append_assoc done (range_with_len 0 h) (h ∷ []) ∙ ap (λ ns. done ++ ns) (sym (range_with_len_push h)) in
     let tells = c.has_ended.ensures setup _ playing.at in
     elim c.if-not-has_ended.branch [
-      | then-not-has_ended w ↦ (
+      | then-not-has_ended+in_ok-turn w ↦ (
           omega (arith, below),
           rw (w.self-is) (playing_as setup order (so_far ++ h ∷ []) (done ++ range_with_len 0 (h + 1)) later later _ one_more refl
               (playing_turn setup order so_far later h c.loop-h.self _ playing (sym tells ∙ w.if-not-has_ended.true) (w.in_ok-turn.ensures setup _ playing.at))),
