@@ -17,3 +17,7 @@ pub mod DeviceLaws
 pub mod Waking
 pub mod Idle
 pub mod Timing
+pub mod Following
+pub mod Merging
+pub mod Banks
+pub mod WaitingHarts

@@ -25,6 +25,9 @@ pub mod Reservations
 pub mod Devices
 pub mod DeviceLaws
 pub mod Unsplit
+pub mod Following
+pub mod Banks
+pub mod Merging
 pub mod Rounds
 pub mod Built
 pub mod EndOfRun
