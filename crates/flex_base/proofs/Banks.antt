@@ -1,15 +1,19 @@
 -- A bank's log with one event more.
-use Rattle.std.proofs.Common.{◌≡◌, ℕ, List, [], ◌∷◌, ◌++◌, ap, sym, subst, ◌∙◌, append-nil, append_assoc}
+use Rattle.std.proofs.Common.{◌≡◌, ℕ, List, [], ◌∷◌, ◌++◌, refl, ap, sym, subst, ◌∙◌, append-nil, append_assoc}
 use Rattle.flex_base.specs.Setup.{Setup}
 use Rattle.flex_base.specs.FlatMemory.{Done}
 use Rattle.flex_base.specs.Banks.{access_in, accesses_of, IsAt, BankedFrom, IsBanked}
 use Rattle.flex_base.specs.declared.event.Event.{Event}
 
-pub accesses_of-push : (events : List Event) (e : Event) → accesses_of (events ++ e ∷ []) ≡ accesses_of events ++ access_in e.hart.0 e.what
-accesses_of-push [] e = append-nil (access_in e.hart.0 e.what)
-accesses_of-push (x ∷ events) e =
+pub accesses_of-append : (events more : List Event) → accesses_of (events ++ more) ≡ accesses_of events ++ accesses_of more
+accesses_of-append [] more = refl
+accesses_of-append (x ∷ events) more =
     let first = access_in x.hart.0 x.what in
-    ap (λ made. first ++ made) (accesses_of-push events e) ∙ sym (append_assoc first (accesses_of events) (access_in e.hart.0 e.what))
+    ap (λ made. first ++ made) (accesses_of-append events more) ∙ sym (append_assoc first (accesses_of events) (accesses_of more))
+
+pub accesses_of-push : (events : List Event) (e : Event) → accesses_of (events ++ e ∷ []) ≡ accesses_of events ++ access_in e.hart.0 e.what
+accesses_of-push events e =
+    accesses_of-append events (e ∷ []) ∙ ap (λ made. accesses_of events ++ made) (append-nil (access_in e.hart.0 e.what))
 
 module _ (setup : Setup) (input : List ℕ) (banks bank : ℕ) where
   banked_from_push : (made : List Done) (events : List Event) (e : Event) → BankedFrom setup input banks bank made events
