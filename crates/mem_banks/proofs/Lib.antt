@@ -1,3 +1,5 @@
 pub mod Bytes
 pub mod Waiting
 pub mod Keeping
+pub mod Plains
+pub mod Ending
