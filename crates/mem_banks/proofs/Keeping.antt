@@ -45,7 +45,7 @@ here_in_lines run book b slot pass access asked =
     let is = asked.kept.lines.is_bank in
     let there : bank_of b.banks (address_of access) ≡ b.bank =
     ap (λ n. bank_of n (address_of access)) is.banks_are ∙ sym (ap (λ r. if r then bank_of (ram_banks run) (address_of access) else ram_banks run) asked.ram) ∙ asked.here in
-    access_here run.setup b access asked.ram (sym is.ram_is) asked.placed there
+    access_here run.setup b access asked.ram (sym is.ram_is) asked.may.placed there
 
 pub lines_push : (run : Run) (bank : ℕ) (old new : lines.Bank) (log : List LogEntry) (hart : HartId) (engine : Engine) (access : Access) (reply : Reply) (number : ℕ)
     → IsBankOf run bank old log → is_ram_access access ≡ true → place_in run access ≡ bank

@@ -1,5 +1,5 @@
 -- What a bank and the devices keep: they are the replay of their logs, and the logs are what a bank's log must be.
-use Rattle.std.specs.Prelude.{◌≡◌, ℕ, ◌+◌, ◌*◌, ◌<◌, ◌≤◌, true, false, List, [], ◌∷◌, Option}
+use Rattle.std.specs.Prelude.{◌≡◌, ℕ, ◌+◌, ◌*◌, ◌<◌, ◌≤◌, true, false, List, [], ◌∷◌, length, Option}
 use Rattle.flex_base.specs.FlatMemory.{is_ram_access}
 use Rattle.flex_base.specs.Forms.{IsPlaced}
 use Rattle.flex_base.specs.Devices.{hart_at, still_waits, devices}
@@ -11,7 +11,7 @@ use Rattle.devices.specs.View as devices
 use Rattle.access_record.specs.declared.entry.LogEntry.{LogEntry}
 use Rattle.access_record.specs.Logs.{of_hart}
 use Rattle.access_record.specs.Passes.{RecordIdentity, PassOfHart, PassOfBank}
-use Rattle.access_record.specs.Buses.{Run, ram_banks, place_in, events_of, bytes_sent, IsGiven, HasByte, waits}
+use Rattle.access_record.specs.Buses.{Run, ram_banks, place_in, events_of, NamePlaces, bytes_sent, HasByte, waits}
 use Rattle.mem_banks.specs.Slots.{log_in, HasPass}
 
 -- the lines are those of the bank of this number, and the replay of its log from the run's image
@@ -51,14 +51,27 @@ pub record IsRun (run : Run) : Type 0 where
   pub some : ram_banks run + 1 ≡ run.book.limits.banks
   pub few : run.setup.harts ≤ 32
 
+-- a pass of the run's record and of one of its harts, whose log has room and names the bank of each access
+pub record IsReady (run : Run) (pass : PassOfHart) : Type 0 where
+  pub book : pass.id ≡ run.book.id
+  pub hart : pass.hart.0 < run.setup.harts
+  pub room : length pass.log < run.book.limits.room
+  pub places : NamePlaces run pass.log
+
+-- what an access asks for wherever it goes
+pub record MayMake (run : Run) (pass : PassOfHart) (access : Access) : Type 0 where
+  pub ready : IsReady run pass
+  pub placed : IsPlaced run.setup.harts run.setup.ram access
+  pub awake : waits pass ≡ false
+  pub console : HasByte run pass access
+
 -- what an access of this bank asks for
 pub record MakesAt (run : Run) (book : RecordIdentity) (b : lines.Bank) (slot : Option PassOfBank) (pass : PassOfHart) (access : Access) : Type 0 where
   pub book_is : book ≡ run.book
   pub run_is : IsRun run
   pub kept : IsBankAt run b.bank b slot
-  pub given : IsGiven run pass
+  pub may : MayMake run pass access
   pub ram : is_ram_access access ≡ true
-  pub placed : IsPlaced run.setup.harts run.setup.ram access
   pub here : place_in run access ≡ b.bank
 
 -- what an access of the devices asks for
@@ -66,16 +79,13 @@ pub record MakesAtDevices (run : Run) (book : RecordIdentity) (d : devices.Devic
   pub book_is : book ≡ run.book
   pub run_is : IsRun run
   pub kept : AreDevicesAt run d slot
-  pub given : IsGiven run pass
+  pub may : MayMake run pass access
   pub device : is_ram_access access ≡ false
-  pub placed : IsPlaced run.setup.harts run.setup.ram access
-  pub awake : waits pass ≡ false
-  pub console : HasByte run pass access
 
 -- what it asks for to wake a hart
 pub record MayWake (run : Run) (book : RecordIdentity) (d : devices.DevicesView) (slot : Option PassOfBank) (pass : PassOfHart) : Type 0 where
   pub book_is : book ≡ run.book
   pub run_is : IsRun run
   pub kept : AreDevicesAt run d slot
-  pub given : IsGiven run pass
+  pub ready : IsReady run pass
   pub waits : waits pass ≡ true

@@ -1,9 +1,12 @@
-ghost use Rattle.std.specs.Prelude.{◌≡◌, ℕ, ◌+◌, ◌*◌, ◌<◌, ◌≤◌, true, [], IfOk, vec_len, vec_capacity};
+ghost use Rattle.std.specs.Prelude.{◌≡◌, ℕ, ◌+◌, ◌*◌, ◌<◌, ◌≤◌, true, false, [], Some, IfNone, IfOk, IfSome, vec_len, vec_capacity};
 ghost use Rattle.flex_base.specs.Limits.{is_lawful};
 ghost use Rattle.flex_base.specs.Loaded.{image_fits};
 ghost use Rattle.mem_lines.specs.Bank.{is_bank_count};
 ghost use Rattle.access_record.specs.Rule.{occurrences};
 ghost use Rattle.access_record.specs.Passes.{add_hart, new_pass};
+ghost use Rattle.flex_base.specs.Forms.{HasForm};
+ghost use Rattle.access_record.specs.Buses.{place_in, access_entry, waits, Extends, HasLooked, waits_unwoken};
+ghost use Rattle.mem_banks.specs.Kept.{IsReady, MayMake};
 ghost use Rattle.mem_banks.specs.Origins.{run_of};
 ghost use Rattle.mem_banks.specs.Plain.{numbers_below, new_slots, AreMade};
 ghost use Rattle.mem_banks.specs.End.{IsMemoryOf, IsFounderOf, AreHeld, passes_down};
@@ -50,22 +53,11 @@ impl Bus for PlainBus {
     ghost run = { λ s. s.run };
 
     fn access(&mut self, pass: Pass, engine: Engine, acc: Access) -> (Pass, u64, Reply) {
-        match ram_address(&acc) {
-            Some(address) => {
-                let bank = (address / 64 % self.lines.len() as u64) as usize;
-                let lines = &mut self.lines[bank];
-                access_bank(&self.book, lines, &mut self.slots[bank], pass, engine, acc)
-            }
-            None => {
-                let slot = &mut self.slots[self.lines.len()];
-                access_devices(&self.book, &mut self.devices, slot, pass, engine, acc)
-            }
-        }
+        self.make(pass, engine, acc)
     }
 
     fn wake(&mut self, pass: Pass, engine: Engine) -> (Pass, Option<(u64, Reply)>) {
-        let slot = &mut self.slots[self.lines.len()];
-        wake_at(&self.book, &mut self.devices, slot, pass, engine)
+        self.make_pulse(pass, engine)
     }
 
     fn note(&mut self, pass: Pass, entry: Entry) -> (Pass, u64) {
@@ -141,6 +133,42 @@ impl PlainBus {
         ensures same { self.new ≡ self.old }
     {
         self.book.enrol_hart(founder, hart)
+    }
+
+    // Makes an access, whether the hart's story asks it or not.
+    pub(crate) fn make(&mut self, pass: Pass, engine: Engine, acc: Access) -> (Pass, u64, Reply)
+        requires may { MayMake self.old.run pass acc }
+        ensures noted { Extends pass result.0 (access_entry engine acc result.2) (Some (place_in self.old.run acc)) result.1 }
+        ensures form { HasForm acc result.2 }
+        ensures same { self.new.run ≡ self.old.run }
+    {
+        match ram_address(&acc) {
+            Some(address) => {
+                let bank = (address / 64 % self.lines.len() as u64) as usize;
+                let lines = &mut self.lines[bank];
+                access_bank(&self.book, lines, &mut self.slots[bank], pass, engine, acc)
+            }
+            None => {
+                let slot = &mut self.slots[self.lines.len()];
+                access_devices(&self.book, &mut self.devices, slot, pass, engine, acc)
+            }
+        }
+    }
+
+    // Makes the pulse of a hart that waits, where it is woken.
+    pub(crate) fn make_pulse(&mut self, pass: Pass, engine: Engine) -> (Pass, Option<(u64, Reply)>)
+        requires ready { IsReady self.old.run pass }
+        requires waits { waits pass ≡ true }
+        ensures woken { IfSome result.1 (λ r. Extends pass result.0 (access_entry engine (Access.Pulse false) r.1)
+            (Some (place_in self.old.run (Access.Pulse false))) r.0) }
+        ensures form { IfSome result.1 (λ r. HasForm (Access.Pulse false) r.1) }
+        ensures value { IfSome result.1 (λ r. r.1.value ≡ 0) }
+        ensures looked { IfNone result.1 (HasLooked pass result.0) }
+        ensures unwoken { IfNone result.1 (waits_unwoken self.old.run result.0 ≡ true) }
+        ensures same { self.new.run ≡ self.old.run }
+    {
+        let slot = &mut self.slots[self.lines.len()];
+        wake_at(&self.book, &mut self.devices, slot, pass, engine)
     }
 
     /// Hands back the memory, with the record and the passes of its banks.

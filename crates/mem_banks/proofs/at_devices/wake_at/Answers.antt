@@ -25,7 +25,7 @@ returns-then-not-woken-clause-unwoken c = λ run asked.
     let kept = asked.kept.devices in
     let hart_is : c.hart.result ≡ pass.hart = search rules in
     let agree : on_bank (ram_banks run) pass.log ≡ of_hart pass.hart.0 was = search rules in
-    let waiting = waits_at run c.args.devices.now pass was kept asked.given.places agree ∙ asked.waits in
+    let waiting = waits_at run c.args.devices.now pass was kept asked.ready.places agree ∙ asked.waits in
     let told : woken run.setup.harts made pass.hart.0 ≡ false =
     ap (λ (h : HartId). woken run.setup.harts made h.0) (sym hart_is) ∙ sym (c.woken.ensures.woken run.setup.harts run.input made kept.replay) ∙ search rules in
     let looked : c.look_at-pass.result.looked ≡ was = search rules in
@@ -67,7 +67,7 @@ returns-clause-kept c = λ run asked.
       pass = now_is ∙ ap (λ l. Some (pass_of run.book dev l)) (sym log_is);
       devices = subst (λ l. AreDevicesOf run c.act-reply.new.self l) (sym log_is)
           (devices_push run c.args.devices.now c.act-reply.new.self was pass.hart c.args.engine pulse reply c.note_at-pass.result.1
-          kept asked.given.hart refl
+          kept asked.ready.hart refl
           (subst (λ (h : HartId). reply ≡ reply_after run.setup.harts run.input made h.0 pulse) hart_is (c.act-reply.ensures.reply run.setup.harts run.input made kept.replay))
           (woken-unwoken (devices run.setup.harts made) pass.hart.0 told)
           (subst (λ (h : HartId). IsReplay run.setup.harts run.input (with_access made h.0 pulse reply) c.act-reply.new.self) hart_is (c.act-reply.ensures.replay run.setup.harts run.input made kept.replay))

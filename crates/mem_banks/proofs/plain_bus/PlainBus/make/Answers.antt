@@ -1,14 +1,13 @@
 use Rattle.std.proofs.Common.{rules, ◌≡◌, ◌<◌, ◌/◌, ◌%◌, length, refl, ap, sym, ◌∙◌, subst}
 use Rattle.std.specs.Prelude.{slice_index_or}
-use Rattle.flex_base.specs.Forms.{IsPlaced}
 use Rattle.flex_base.specs.FlatMemory.{is_ram_access}
 use Rattle.flex_base.specs.Banks.{address_of}
-use Rattle.access_record.specs.Buses.{Run, IsGiven}
-use Rattle.mem_banks.specs.Kept.{IsBankAt, MakesAt}
+use Rattle.access_record.specs.Buses.{Run}
+use Rattle.mem_banks.specs.Kept.{IsBankAt, MakesAt, MayMake}
 use Rattle.mem_banks.specs.Origins.{run_from}
 use Rattle.mem_banks.specs.Plain.{Plain}
 use Rattle.mem_banks.proofs.Plains.{told_some, place_of_ram, plain-bank}
-use Rattle.mem_banks.proofs.plain_bus.PlainBusBus.access.Goals as goal
+use Rattle.mem_banks.proofs.plain_bus.PlainBus.make.Goals as goal
 
 pub invariant_of-self : goal.invariant_of-self
 invariant_of-self c =
@@ -30,9 +29,8 @@ invariant_of-self c =
       book_is = refl;
       run_is = p.run_is;
       kept = subst (λ n. IsBankAt run n b slot) (sym bank_is) at;
-      given = subst (λ (r : Run). IsGiven r c.args.pass) (sym same) c.requires.given;
+      may = subst (λ (r : Run). MayMake r c.args.pass c.args.acc) (sym same) c.requires.may;
       ram = told.0;
-      placed = subst (λ (r : Run). IsPlaced r.setup.harts r.setup.ram c.args.acc) (sym same) c.requires.placed;
       here = place ∙ sym bank_is;
     } in
     (
