@@ -31,7 +31,7 @@ bytes_of-append made more =
     ∙ ap length (map-append byte (filter sends made) (filter sends more))
     ∙ length-append (map byte (filter sends made)) (map byte (filter sends more))
 
-bytes-append : (log more : List LogEntry) → bytes_sent (log ++ more) ≡ bytes_sent log + bytes_sent more
+pub bytes-append : (log more : List LogEntry) → bytes_sent (log ++ more) ≡ bytes_sent log + bytes_sent more
 unfolding bytes_of
 bytes-append log more =
     let made = accesses_of (events_of log) in
@@ -115,7 +115,7 @@ one_by : (b : Bool) (d : Done) → length (map (λ (x : Done). byte_of x.access)
 one_by true d = refl
 one_by false d = refl
 
-one_sent : (hart : HartId) (engine : Engine) (access : Access) (reply : Reply) (bank number : ℕ) (b : Bool) → is_transmit access ≡ b
+pub one_sent : (hart : HartId) (engine : Engine) (access : Access) (reply : Reply) (bank number : ℕ) (b : Bool) → is_transmit access ≡ b
     → bytes_sent (entry_of hart engine access reply bank number ∷ []) ≡ cond b 1 0
 one_sent hart engine access reply bank number b is =
     let d : Done = record { hart = hart.0; access = access; reply = reply } in

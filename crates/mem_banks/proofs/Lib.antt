@@ -3,3 +3,4 @@ pub mod Waiting
 pub mod Keeping
 pub mod Plains
 pub mod Ending
+pub mod Trying

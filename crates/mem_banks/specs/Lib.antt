@@ -4,3 +4,4 @@ pub mod Origins
 pub mod Plain
 pub mod End
 pub mod Memories
+pub mod Tried

@@ -17,3 +17,6 @@ mod slots;
 pub use end_memory::EndMemory;
 pub use ended::Ended;
 pub use plain_bus::PlainBus;
+
+#[cfg(test)]
+mod tests;
