@@ -1,5 +1,5 @@
 -- The bytes that harts have transmitted.
-use Rattle.std.proofs.Common.{◌≡◌, ◌≢◌, ℕ, ◌+◌, ◌*◌, ◌<◌, ◌≤◌, Bool, true, false, cond, if◌then◌else◌, Some, List, [], ◌∷◌, ◌++◌, map, length, refl, sym, ap, ◌∙◌, subst, arith, length-append, eq-eqb, ne_eqb, eqb}
+use Rattle.std.proofs.Common.{◌≡◌, ◌≢◌, ℕ, ◌+◌, ◌*◌, ◌<◌, ◌≤◌, Bool, true, false, cond, if◌then◌else◌, Some, List, [], ◌∷◌, ◌++◌, map, length, refl, sym, ap, ◌∙◌, subst, arith, length-append, eq-eqb, ne_eqb}
 use Rattle.std.specs.List.{filter}
 use Rattle.std.proofs.lemmas.List.{map-append}
 use Rattle.std.proofs.lemmas.List.Elements.{filter-append}
@@ -11,7 +11,6 @@ use Rattle.flex_base.specs.declared.access.Access.{Access}
 use Rattle.flex_base.specs.declared.access.Reply.{Reply}
 use Rattle.flex_base.specs.declared.engine.Engine.{Engine}
 use Rattle.flex_base.specs.declared.hart.HartId.{HartId}
-use Rattle.flex_base.specs.declared.event.Event.{Event}
 use Rattle.flex_base.proofs.Banks.{accesses_of-append}
 use Rattle.access_record.specs.declared.entry.LogEntry.{LogEntry}
 use Rattle.access_record.specs.Logs.{names_hart, names_bank, of_hart, on_bank, log_entry, sum_below}

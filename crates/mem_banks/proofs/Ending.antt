@@ -1,5 +1,5 @@
 -- The passes of a bus that is dissolved, and how its record is closed.
-use Rattle.std.proofs.Common.{◌≡◌, ◌≢◌, ℕ, zero, suc, ◌+◌, ◌<◌, ◌≤◌, true, false, ◌==◌, if◌then◌else◌, List, [], ◌∷◌, ◌++◌, map, length, take, sym, refl, ap, ◌∙◌, subst, Option, Some, None, arith, eq-eqb, ne_eqb, append_assoc}
+use Rattle.std.proofs.Common.{◌≡◌, ℕ, zero, suc, ◌+◌, ◌<◌, ◌≤◌, ◌==◌, if◌then◌else◌, List, [], ◌∷◌, ◌++◌, map, length, take, sym, refl, ap, ◌∙◌, subst, Option, Some, None, arith, eq-eqb, ne_eqb, append_assoc}
 use Rattle.std.specs.Prelude.{slice_index_or}
 use Rattle.std.specs.List.{All}
 use Rattle.std.proofs.lemmas.List.{get_or-take, length-take-le}
@@ -8,11 +8,11 @@ use native.Mathlib.Decide.{ℕ_discrete}
 use Rattle.mem_lines.specs.Bank.{Bank}
 use Rattle.devices.specs.View.{DevicesView}
 use Rattle.access_record.specs.declared.entry.LogEntry.{LogEntry}
-use Rattle.access_record.specs.Rule.{one_if, total, count_of, occurrences}
+use Rattle.access_record.specs.Rule.{one_if, count_of, occurrences}
 use Rattle.access_record.specs.Passes.{RecordIdentity, PassOfBank, Enrolment, EachHasBankPass, bank_logs_of}
 use Rattle.access_record.specs.Buses.{Run, ram_banks}
 use Rattle.mem_banks.specs.Slots.{pass_of, log_in, HasPass}
-use Rattle.mem_banks.specs.Kept.{IsBankOf, IsBankAt, AreDevicesOf, AreDevicesAt}
+use Rattle.mem_banks.specs.Kept.{IsBankOf, AreDevicesOf}
 use Rattle.mem_banks.specs.Plain.{IsPlain, numbers_below}
 use Rattle.mem_banks.specs.End.{Memory, IsMemoryOf, pass_in, passes_down, AreHeld}
 

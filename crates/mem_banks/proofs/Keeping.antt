@@ -1,11 +1,10 @@
 -- A bank and the devices with one access more.
-use Rattle.std.proofs.Common.{◌≡◌, ℕ, ◌+◌, ◌*◌, ◌<◌, arith, true, false, if◌then◌else◌, List, [], ◌∷◌, ◌++◌, refl, sym, ap, ◌∙◌, subst, Option, Some, eq-eqb, length}
+use Rattle.std.proofs.Common.{◌≡◌, ℕ, ◌<◌, arith, true, false, if◌then◌else◌, List, [], ◌∷◌, ◌++◌, sym, ap, ◌∙◌, subst, Option, eq-eqb, length}
 use Rattle.flex_base.specs.FlatMemory.{Done, is_ram_access, flat}
 use Rattle.flex_base.specs.Unsplit.{with_access}
-use Rattle.flex_base.specs.Forms.{IsPlaced}
 use Rattle.flex_base.specs.Place.{UART}
 use Rattle.flex_base.specs.Devices.{is_transmit, sent_bytes, reply_after, devices}
-use Rattle.flex_base.specs.Banks.{bank_of, address_of, accesses_of, reply_at, IsProper, IsBanked}
+use Rattle.flex_base.specs.Banks.{bank_of, address_of, accesses_of, IsProper, IsBanked}
 use Rattle.flex_base.specs.declared.access.Access.{Access}
 use Rattle.flex_base.specs.declared.access.Access.TheVariants as acc
 use Rattle.flex_base.specs.declared.access.Reply.{Reply}
@@ -25,10 +24,9 @@ use Rattle.access_record.specs.Passes.{RecordIdentity, PassOfHart, PassOfBank}
 use Rattle.access_record.specs.Buses.{Run, ram_banks, place_in, events_of, bytes_sent, NamePlaces, waits}
 use Rattle.flex_base.specs.Following.{is_waiting}
 use Rattle.access_record.proofs.Extending.{events_of-push}
-use Rattle.mem_banks.specs.Slots.{log_in}
-use Rattle.mem_banks.specs.Kept.{IsBankOf, IsBankAt, AreDevicesOf, AreDevicesAt, AreOfHarts, MakesAt, MakesAtDevices}
+use Rattle.mem_banks.specs.Kept.{IsBankOf, AreDevicesOf, AreOfHarts, MakesAt}
 use Rattle.mem_banks.proofs.Bytes.{entry_of, bytes-push, some_room, fewer-on_bank}
-use Rattle.mem_banks.proofs.Waiting.{waiting-push, waiting-part, proper_by}
+use Rattle.mem_banks.proofs.Waiting.{waiting-push, waiting-part}
 
 more_accesses : (log : List LogEntry) (hart : HartId) (engine : Engine) (access : Access) (reply : Reply) (bank number : ℕ)
     → accesses_of (events_of (log ++ entry_of hart engine access reply bank number ∷ [])) ≡ with_access (accesses_of (events_of log)) hart.0 access reply

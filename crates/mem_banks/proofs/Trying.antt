@@ -1,5 +1,5 @@
 -- A hart of the tests with one access more.
-use Rattle.std.proofs.Common.{◌≡◌, ℕ, ◌+◌, ◌-◌, ◌<◌, ◌≤◌, Bool, true, false, cond, List, [], ◌∷◌, ◌++◌, length, refl, sym, ap, ◌∙◌, subst, Some, arith, length-append}
+use Rattle.std.proofs.Common.{◌≡◌, ℕ, ◌+◌, ◌<◌, ◌≤◌, Bool, false, cond, List, [], ◌∷◌, length, refl, sym, ap, ◌∙◌, subst, Some, arith, length-append}
 use Rattle.flex_base.specs.Devices.{is_transmit}
 use Rattle.flex_base.specs.Following.{waits_by, is_waiting}
 use Rattle.flex_base.specs.declared.access.Access.{Access}
@@ -8,7 +8,7 @@ use Rattle.flex_base.specs.declared.engine.Engine.{Engine}
 use Rattle.flex_base.specs.declared.hart.HartId.{HartId}
 use Rattle.access_record.specs.Passes.{PassOfHart, new_pass}
 use Rattle.flex_base.proofs.Following.{is_waiting-none}
-use Rattle.access_record.specs.Buses.{Run, place_in, events_of, NamePlaces, bytes_sent, access_entry, Extends, HasLooked, waits}
+use Rattle.access_record.specs.Buses.{Run, place_in, events_of, NamePlaces, bytes_sent, access_entry, Extends, HasLooked}
 use Rattle.access_record.specs.declared.entry.LogEntry.{LogEntry}
 use Rattle.access_record.proofs.Extending.{extends-waits, extends-places}
 use Rattle.mem_banks.specs.Tried.{IsTried}

@@ -1,10 +1,9 @@
 -- Which hart waits, by its own log and by that of the devices.
-use Rattle.std.proofs.Common.{◌≡◌, ◌≢◌, ℕ, Bool, true, false, cond, ◌==◌, if◌then◌else◌, List, [], ◌∷◌, ◌++◌, refl, sym, ap, ◌∙◌, subst, Option, Some, append-nil, eq-eqb}
+use Rattle.std.proofs.Common.{◌≡◌, ℕ, Bool, true, false, cond, List, [], ◌∷◌, ◌++◌, refl, sym, ap, ◌∙◌, subst, Option, append-nil, eq-eqb}
 use Rattle.std.specs.List.{filter, fold}
 use native.Mathlib.Decide.{ℕ_discrete}
-use Rattle.flex_base.specs.Setup.{Setup}
 use Rattle.flex_base.specs.FlatMemory.{Done}
-use Rattle.flex_base.specs.Devices.{hart_at, still_waits, devices, input_left, reply_after, device_step}
+use Rattle.flex_base.specs.Devices.{devices, input_left, reply_after, device_step}
 use Rattle.flex_base.specs.Following.{waits_after, waits_by, is_waiting}
 use Rattle.flex_base.specs.Banks.{accesses_of, IsProper}
 use Rattle.flex_base.specs.declared.access.Access.{Access}
@@ -66,7 +65,7 @@ pub waiting-push : (harts : ℕ) (input : List ℕ) (log : List LogEntry) (hart 
     → ((h : ℕ) → waits_in (devices harts (accesses_of (events_of log))) h ≡ is_waiting (events_of (of_hart h log)))
     → reply ≡ reply_after harts input (accesses_of (events_of log)) hart.0 access
     → (h : ℕ) → waits_in (devices harts (accesses_of (events_of (log ++ entry_of hart engine access reply bank number ∷ [])))) h
-        ≡ is_waiting (events_of (of_hart h (log ++ entry_of hart engine access reply bank number ∷ [])))
+    ≡ is_waiting (events_of (of_hart h (log ++ entry_of hart engine access reply bank number ∷ [])))
 waiting-push harts input log hart engine access reply bank number agree is h = by (ℕ_discrete hart.0 h)
   where
     e : LogEntry

@@ -1,5 +1,5 @@
 -- A bus of one thread: what it is of, and what its banks and its devices keep.
-use Rattle.std.specs.Prelude.{◌≡◌, ℕ, zero, suc, ◌<◌, List, [], ◌∷◌, map, length, slice_index_or, Option, None, Some}
+use Rattle.std.specs.Prelude.{◌≡◌, ℕ, zero, suc, ◌<◌, List, [], ◌∷◌, map, length, slice_index_or, Option, Some}
 use Rattle.std.specs.List.{range_with_len}
 use Rattle.flex_base.specs.Setup.{Setup}
 use Rattle.flex_base.specs.Loaded.{Loaded}
@@ -50,4 +50,4 @@ pub record IsOfImage (image : Loaded) (settings : Settings) (setup : Setup) : Ty
 abbrev pub AreMade : Loaded → Settings → ℕ → List Bank → Type 0
 AreMade image settings banks lines = (k : ℕ) (b : Bank) → k < length lines
     → IsBank settings.ram banks k (slice_index_or lines k b)
-      × ((setup : Setup) → IsOfImage image settings setup → IsReplay setup [] (slice_index_or lines k b))
+    × ((setup : Setup) → IsOfImage image settings setup → IsReplay setup [] (slice_index_or lines k b))

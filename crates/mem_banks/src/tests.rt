@@ -10,7 +10,9 @@ ghost use Rattle.mem_banks.specs.Tried.{IsTried};
 
 use super::*;
 use access_record::{Founder, Pass};
-use flex_base::{Access, Engine, HartId, Image, Layout, MSIP, Place, RAM_BASE, Reply, Settings, UART};
+use flex_base::{
+    Access, Engine, HartId, Image, Layout, MSIP, Place, RAM_BASE, Reply, Settings, UART,
+};
 use std::alloc::{AllocError, Global};
 use std::process::Abort;
 use std::test::Fail;
@@ -232,12 +234,51 @@ fn enrol(bus: &mut PlainBus, founder: Founder, hart: HartId) -> (Founder, Tried)
 
 // Hart 0 fetches, writes and reads in each of the banks, and reserves.
 const IN_BANKS: [(Access, u64, u64); 7] = [
-    (Access::Fetch { address: 0x8000_0000 }, 0, 1),
-    (Access::Fetch { address: 0x8000_0040 }, 1, 2),
-    (Access::Fetch { address: 0x8000_0080 }, 2, 3),
-    (Access::Fetch { address: 0x8000_00c0 }, 3, 4),
-    (Access::Write { address: 0x8000_0044, width: 4, value: 7 }, 4, 0),
-    (Access::Read { address: 0x8000_0040, width: 8 }, 5, 0x7_0000_0002),
+    (
+        Access::Fetch {
+            address: 0x8000_0000,
+        },
+        0,
+        1,
+    ),
+    (
+        Access::Fetch {
+            address: 0x8000_0040,
+        },
+        1,
+        2,
+    ),
+    (
+        Access::Fetch {
+            address: 0x8000_0080,
+        },
+        2,
+        3,
+    ),
+    (
+        Access::Fetch {
+            address: 0x8000_00c0,
+        },
+        3,
+        4,
+    ),
+    (
+        Access::Write {
+            address: 0x8000_0044,
+            width: 4,
+            value: 7,
+        },
+        4,
+        0,
+    ),
+    (
+        Access::Read {
+            address: 0x8000_0040,
+            width: 8,
+        },
+        5,
+        0x7_0000_0002,
+    ),
     (
         Access::Lr {
             address: 0x8000_00c0,
@@ -250,7 +291,15 @@ const IN_BANKS: [(Access, u64, u64); 7] = [
 
 // Hart 1 writes to what hart 0 has reserved, and then waits for a software interrupt.
 const OF_OTHER: [(Access, u64, u64); 2] = [
-    (Access::Write { address: 0x8000_00c4, width: 4, value: 5 }, 7, 0),
+    (
+        Access::Write {
+            address: 0x8000_00c4,
+            width: 4,
+            value: 5,
+        },
+        7,
+        0,
+    ),
     (Access::Wait { mie: 8 }, 8, 1),
 ];
 
@@ -267,11 +316,27 @@ const OF_DEVICES: [(Access, u64, u64); 4] = [
     ),
     (Access::Pulse { tick: true }, 10, 0),
     (Access::Time, 11, 1),
-    (Access::DevWrite { address: UART, width: 1, value: 0x48 }, 12, 0),
+    (
+        Access::DevWrite {
+            address: UART,
+            width: 1,
+            value: 0x48,
+        },
+        12,
+        0,
+    ),
 ];
 
 // It interrupts hart 1.
-const INTERRUPTS: [(Access, u64, u64); 1] = [(Access::DevWrite { address: MSIP + 4, width: 4, value: 1 }, 13, 0)];
+const INTERRUPTS: [(Access, u64, u64); 1] = [(
+    Access::DevWrite {
+        address: MSIP + 4,
+        width: 4,
+        value: 1,
+    },
+    13,
+    0,
+)];
 
 // Hart 1 reads the console's input.
 const OF_WOKEN: [(Access, u64, u64); 1] = [(
@@ -308,7 +373,10 @@ fn banks_and_devices_answer(rt: HostRuntime) -> Result<(), Fail> {
     let closed = end.settle(founder, passes);
     let sent = end.devices.console() == b"H".as_slice();
     end.discard();
-    assert_eq!(rt; [in_banks, of_other, of_devices, interrupts, of_woken], [7, 2, 4, 1, 1]);
+    assert_eq!(rt;
+        [in_banks, of_other, of_devices, interrupts, of_woken],
+        [7, 2, 4, 1, 1]
+    );
     assert!(rt; unwoken.is_none() && woken == Some(8) && sent);
     assert_eq!(rt; closed.count, 16);
     Ok(())

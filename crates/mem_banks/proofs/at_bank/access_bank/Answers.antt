@@ -4,7 +4,6 @@ use Rattle.flex_base.specs.Unsplit.{with_access}
 use Rattle.flex_base.specs.Banks.{accesses_of}
 use Rattle.flex_base.specs.declared.hart.HartId.{HartId}
 use Rattle.mem_lines.specs.Bank.{IsReplay}
-use Rattle.access_record.specs.declared.entry.LogEntry.{LogEntry}
 use Rattle.access_record.specs.Buses.{events_of}
 use Rattle.mem_banks.specs.Slots.{pass_of, log_in}
 use Rattle.mem_banks.specs.Kept.{IsBankOf}

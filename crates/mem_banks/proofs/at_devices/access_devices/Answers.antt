@@ -4,10 +4,10 @@ use Rattle.flex_base.specs.Devices.{reply_after}
 use Rattle.flex_base.specs.Banks.{accesses_of}
 use Rattle.flex_base.specs.declared.hart.HartId.{HartId}
 use Rattle.devices.specs.View.{IsReplay}
-use Rattle.access_record.specs.Buses.{Run, events_of, ram_banks}
+use Rattle.access_record.specs.Buses.{events_of, ram_banks}
 use Rattle.access_record.specs.Logs.{on_bank, of_hart}
-use Rattle.mem_banks.specs.Slots.{pass_of, log_in, bank_in}
-use Rattle.mem_banks.specs.Kept.{AreDevicesOf, MakesAtDevices}
+use Rattle.mem_banks.specs.Slots.{pass_of, log_in}
+use Rattle.mem_banks.specs.Kept.{AreDevicesOf}
 use Rattle.mem_banks.proofs.Bytes.{entry_of}
 use Rattle.mem_banks.proofs.Waiting.{proper_by}
 use Rattle.mem_banks.proofs.Keeping.{devices_push, room_at, own_bytes, waits_at}

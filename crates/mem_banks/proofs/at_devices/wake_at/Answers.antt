@@ -1,7 +1,6 @@
-use Rattle.std.proofs.Common.{rules, ◌≡◌, ℕ, true, false, Some, ◌++◌, ◌∷◌, [], List, refl, ap, sym, ◌∙◌, subst}
-use Rattle.flex_base.specs.FlatMemory.{Done}
+use Rattle.std.proofs.Common.{rules, ◌≡◌, true, false, Some, ◌++◌, ◌∷◌, [], List, refl, ap, sym, ◌∙◌, subst}
 use Rattle.flex_base.specs.Unsplit.{with_access}
-use Rattle.flex_base.specs.Devices.{reply_after, devices, woken, input_left, hart_at, is_unwoken, is_woken}
+use Rattle.flex_base.specs.Devices.{reply_after, devices, woken, input_left, hart_at, is_unwoken}
 use Rattle.flex_base.specs.Banks.{accesses_of}
 use Rattle.flex_base.specs.declared.access.Access.{Access}
 use Rattle.flex_base.specs.declared.access.Access.TheVariants as acc
@@ -10,7 +9,7 @@ use Rattle.flex_base.proofs.WaitingHarts.{waits-unwoken, woken-unwoken, woken-pu
 use Rattle.devices.specs.View.{IsReplay}
 use Rattle.access_record.specs.declared.entry.LogEntry.{LogEntry}
 use Rattle.access_record.specs.Logs.{on_bank, of_hart}
-use Rattle.access_record.specs.Buses.{Run, events_of, ram_banks}
+use Rattle.access_record.specs.Buses.{events_of, ram_banks}
 use Rattle.mem_banks.specs.Slots.{pass_of, log_in}
 use Rattle.mem_banks.specs.Kept.{AreDevicesOf}
 use Rattle.mem_banks.proofs.Bytes.{entry_of}

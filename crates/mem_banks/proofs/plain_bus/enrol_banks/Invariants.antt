@@ -5,5 +5,5 @@ use Rattle.mem_banks.proofs.plain_bus.enrol_banks.Given as goal
 
 abbrev pub invariant-loop-bank : goal.invariant-loop-bank
 invariant-loop-bank l = (l.founder.id ≡ l.initial.founder.id) × (l.founder.harts ≡ l.initial.founder.harts)
-  × (l.founder.banks ≡ numbers_below l.bank) × (l.slots.items ≡ new_slots l.book l.bank)
-  × (vec_len l.slots ≡ l.bank) × (l.all ≤ vec_capacity l.slots)
+    × (l.founder.banks ≡ numbers_below l.bank) × (l.slots.items ≡ new_slots l.book l.bank)
+    × (vec_len l.slots ≡ l.bank) × (l.all ≤ vec_capacity l.slots)

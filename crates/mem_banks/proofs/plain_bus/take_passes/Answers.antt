@@ -1,4 +1,4 @@
-use Rattle.std.proofs.Common.{rules, arith, ◌≡◌, ◌-◌, ◌<◌, suc, length, None, Some, ◌++◌, ◌∷◌, [], ap, sym, ◌∙◌, subst}
+use Rattle.std.proofs.Common.{rules, arith, ◌≡◌, ◌-◌, ◌<◌, suc, None, Some, ◌++◌, ◌∷◌, [], ap, ◌∙◌}
 use Rattle.std.specs.Prelude.{vec_len, slice_index_or}
 use Rattle.mem_banks.specs.End.{passes_down}
 use Rattle.mem_banks.proofs.Ending.{held_take, take_step}
@@ -13,8 +13,7 @@ loop-slot-preserved c =
     let p = c.in-Some-slot.pass in
     let here : slice_index_or old m None ≡ Some p = cc (c.pop.ensures.value None some, c.in-Some.is, c.in-Some-slot.is) in
     let one : len ≡ suc m = omega (arith, some) in
-    let fewer : vec_len c.pop.new.self ≡ m = search rules in
-    (
+    let fewer : vec_len c.pop.new.self ≡ m = search rules in (
       held_take old c.pop.new.self.items m c.loop-slot.invariant.0 (search rules) c.pop.ensures.rest,
       search rules,
       ap (λ room. room ++ passes_down c.pop.new.self.items (vec_len c.pop.new.self)) c.push_reserved.ensures.items

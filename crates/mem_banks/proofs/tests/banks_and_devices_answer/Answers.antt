@@ -23,16 +23,18 @@ settle-closed-requires g c =
     let first_hart : first.hart.0 ≡ 0 = search rules in
     let second_hart : second.hart.0 ≡ 1 = search rules in
     let enrolled : founder.harts ≡ 0 ∷ 1 ∷ [] = search rules in
-    record { of_run = (
-      run,
-      record {
-        of_run = subst (λ (r : Run). IsMemoryOf r c.dissolve-end.result) at_last c.dissolve-end.ensures;
-        founder_is = record { id = search rules; banks = search rules };
-        ids = subst (λ (ps : List PassOfHart). All Is ps) (sym items) (All-cons Is first (second ∷ []) first_id (All-cons Is second [] second_id none));
-        harts = λ hart.
-            let same : occurrences hart founder.harts ≡ count_of (λ (p : PassOfHart). p.hart.0) hart c.put-2.new.passes.items =
-            ap (occurrences hart) enrolled
-            ∙ sym (ap (count_of (λ (p : PassOfHart). p.hart.0) hart) items ∙ ap (λ (x : ℕ × ℕ). one_if (x.0 == hart) + (one_if (x.1 == hart) + 0)) (λ i. (first_hart i, second_hart i))) in
-            omega (arith, same);
-      },
-    ) }
+    record {
+      of_run = (
+        run,
+        record {
+          of_run = subst (λ (r : Run). IsMemoryOf r c.dissolve-end.result) at_last c.dissolve-end.ensures;
+          founder_is = record { id = search rules; banks = search rules };
+          ids = subst (λ (ps : List PassOfHart). All Is ps) (sym items) (All-cons Is first (second ∷ []) first_id (All-cons Is second [] second_id none));
+          harts = λ hart.
+              let same : occurrences hart founder.harts ≡ count_of (λ (p : PassOfHart). p.hart.0) hart c.put-2.new.passes.items =
+              ap (occurrences hart) enrolled
+              ∙ sym (ap (count_of (λ (p : PassOfHart). p.hart.0) hart) items ∙ ap (λ (x : ℕ × ℕ). one_if (x.0 == hart) + (one_if (x.1 == hart) + 0)) (λ i. (first_hart i, second_hart i))) in
+              omega (arith, same);
+        },
+      );
+    }

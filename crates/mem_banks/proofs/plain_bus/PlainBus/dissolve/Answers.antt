@@ -1,4 +1,4 @@
-use Rattle.std.proofs.Common.{rules, ◌≡◌, Some, length, ap, sym, ◌∙◌, subst}
+use Rattle.std.proofs.Common.{rules, ◌≡◌, Some, length, ap, subst}
 use Rattle.access_record.specs.Buses.{Run}
 use Rattle.mem_banks.specs.Origins.{run_from}
 use Rattle.mem_banks.specs.Plain.{Plain}

@@ -22,7 +22,7 @@ invariant_of-self c =
     let told = told_some (is_ram_access c.args.acc) (address_of c.args.acc) c.in-Some.address found in
     let below : k < length lines = search rules in
     let at = subst (λ x. IsBankAt run k x slot) (sym c.index_mut-lines.ensures.value)
-        (subst (λ x. IsBankAt run k (slice_index_or lines k b) x) (sym c.index_mut.ensures.value) (p.banks k b slot below)) in
+    (subst (λ x. IsBankAt run k (slice_index_or lines k b) x) (sym c.index_mut.ensures.value) (p.banks k b slot below)) in
     let bank_is : b.bank ≡ k = at.lines.is_bank.bank_is in
     let place = place_of_ram run c.len.result c.args.acc c.in-Some.address (search rules) found in
     let asked : MakesAt run run.book b slot c.args.pass c.args.acc = record {
@@ -32,8 +32,7 @@ invariant_of-self c =
       may = subst (λ (r : Run). MayMake r c.args.pass c.args.acc) (sym same) c.requires.may;
       ram = told.0;
       here = place ∙ sym bank_is;
-    } in
-    (
+    } in (
       plain-bank run lines c.self.inside.devices c.self.inside.slots.items k c.access_bank.new.lines c.access_bank.new.slot p below
           (subst (λ n. IsBankAt run n c.access_bank.new.lines c.access_bank.new.slot) bank_is (c.access_bank.ensures.kept run asked)),
       search rules,
