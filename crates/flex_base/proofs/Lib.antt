@@ -23,4 +23,8 @@ pub mod Fitting
 pub mod Waking
 pub mod Idle
 pub mod Timing
+pub mod Following
+pub mod Merging
+pub mod Banks
+pub mod WaitingHarts
 mod Examples
