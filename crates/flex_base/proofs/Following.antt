@@ -1,20 +1,21 @@
 -- A list of events that follows a hart's story, and the unsplit machine.
-use Rattle.std.proofs.Common.{◌≡◌, ℕ, ◌<◌, true, false, not, List, [], ◌∷◌, ◌++◌, map, cond, length, refl, ap, sym, subst, ◌∙◌, Some, append-nil, append_assoc}
+use Rattle.std.proofs.Common.{◌≡◌, ℕ, ◌<◌, Bool, true, false, not, List, [], ◌∷◌, ◌++◌, map, cond, length, refl, ap, sym, subst, ◌∙◌, Some, append-nil, append_assoc}
 use Rattle.std.specs.List.{filter}
 use Rattle.std.proofs.lemmas.List.FromFn.{length-map-range_with_len}
 use Rattle.std.proofs.lemmas.List.Sums.{fold_push}
 use Rattle.flex_base.specs.Setup.{Setup}
 use Rattle.flex_base.specs.State.{start}
-use Rattle.flex_base.specs.Story.{Want, Asks, Ends}
+use Rattle.flex_base.specs.StoryTree.{Want, Asks, Ends, IsParked}
 use Rattle.flex_base.specs.FlatMemory.{reply_with}
-use Rattle.flex_base.specs.Unsplit.{Machine, Instruction, instruction_from, instruction_at, instruction_after, Made, does, begin, reply_to, step, reach_from, unsplit}
+use Rattle.flex_base.specs.Unsplit.{Machine, Instruction, instruction_from, instruction_at, instruction_after, Made, does, begin, want_of, is_woken_in, next_of, resumes, reply_to, step, reach_from, unsplit}
 use Rattle.flex_base.specs.Journal.{is_handover, strip, order_of}
 use Rattle.flex_base.specs.Following.{next_access, wanted, MayDo, instruction_then, FollowsFrom, leads_to, Follows, waits_after, is_waiting}
 use Rattle.flex_base.specs.declared.access.Access.{Access}
+use Rattle.flex_base.specs.declared.access.Access.TheVariants as acc
 use Rattle.flex_base.specs.declared.event.Event.{Event}
 use Rattle.flex_base.specs.declared.event.What.{What}
 use Rattle.flex_base.specs.declared.event.What.TheVariants as what
-use Rattle.flex_base.proofs.Machines.{reach-cons, reach-none, step_is, instruction_after_access, instruction_after_end, instruction_at-begin, length-step}
+use Rattle.flex_base.proofs.Machines.{reach-cons, reach-none, next_ends, step_is, instruction_after_access, instruction_after_end, instruction_at-begin, length-step}
 
 -- One event more.
 
@@ -58,23 +59,26 @@ is_waiting-push events e = fold_push (λ was (x : Event). waits_after was x.what
 
 -- A hart alone.
 
--- the replies are the machine's, over all that the hart did so far, and no other hart does anything
+-- the reply is the machine's, over all that the hart did so far, and a parked hart is woken where it makes its pulse
 abbrev pub IsReply : Setup → Machine → ℕ → What → Type 0
-IsReply setup u h (what.Acc access reply) = reply ≡ reply_to setup u h access
+IsReply setup u h (what.Acc access reply) =
+    (reply ≡ reply_to setup u h access) × (want_of setup u h ≡ IsParked → is_woken_in setup u h ≡ true)
 IsReply setup u h other = Unit {0}
 
 abbrev pub machine_then : Setup → Machine → ℕ → What → Machine
 machine_then setup u h (what.Handover to) = u
 machine_then setup u h other = step setup u h
 
+-- so it is with each of these events, and no other hart does anything
 abbrev pub IsAlone : Setup → ℕ → Machine → List Event → Type 0
 IsAlone setup h u [] = Unit {0}
 IsAlone setup h u (e ∷ events) = (e.hart.0 ≡ h) × IsReply setup u h e.what × IsAlone setup h (machine_then setup u h e.what) events
 
--- what a hart makes next it asks
-asks_by : (w : Want) (access : Access) → next_access w ≡ Some access → w ≡ Asks access
-asks_by (Asks other) access e = cc
-asks_by other access e = absurd cc
+-- the access that a hart makes next is its next event, where it is woken if it is parked
+next_by : (w : Want) (woken : Bool) (access : Access) → next_access w ≡ Some access → (w ≡ IsParked → woken ≡ true) → resumes w woken ≡ Asks access
+next_by (Asks other) woken access e awake = cc
+next_by IsParked woken access e awake = let pulse : Asks (acc.Pulse false) ≡ Asks access = cc in ap (resumes IsParked) (awake refl) ∙ pulse
+next_by other woken access e awake = absurd cc
 
 strip-none : strip [] ≡ []
 unfolding strip
@@ -139,12 +143,13 @@ module _ (setup : Setup) (h : ℕ) (below : h < setup.harts) where
       by : ((v : Machine) → length v.harts ≡ setup.harts → FollowsFrom setup (instruction_at v h) events → IsAlone setup h v events → Goes v events) → (w : What) → e.what ≡ w → Goes u (e ∷ events)
       by again (what.Acc access reply) is =
           let k : Knows (what.Acc access reply) = subst Knows is knows in
-          let asks = asks_by (wanted setup i) access k.0.0.0 in
+          let told = k.1.0 in
+          let asks : next_of setup u h ≡ Asks access = next_by (wanted setup i) (is_woken_in setup u h) access k.0.0.0 k.1.1 in
           let made_is = step_is setup u h (Asks access) below asks in
           let at : instruction_at (step setup u h) h ≡ instruction_then setup i (what.Acc access reply) =
-          instruction_after_access setup u h access below within asks ∙ ap (λ r. instruction_after i (Asks access) r) (sym k.1) in
+          instruction_after_access setup u h access below within asks ∙ ap (λ r. instruction_after i (Asks access) r) (sym told) in
           made u e events (what.Acc access reply) is refl by_itself.0
-          (ap (λ (m : Machine). m.events) made_is ∙ ap (λ r. u.events ++ does h (what.Acc access r) ∷ []) (sym k.1))
+          (ap (λ (m : Machine). m.events) made_is ∙ ap (λ r. u.events ++ does h (what.Acc access r) ∷ []) (sym told))
           (again (step setup u h) next (subst (λ (j : Instruction). FollowsFrom setup j events) (sym at) k.0.1) k.2)
       by again (what.End part) is =
           let k : Knows (what.End part) = subst Knows is knows in
@@ -152,7 +157,8 @@ module _ (setup : Setup) (h : ℕ) (below : h < setup.harts) where
           let ends = k.0.0.1 in
           let at : instruction_at (step setup u h) h ≡ instruction_then setup i (what.End part) =
           instruction_after_end setup u h part after below within ends ∙ ap (λ w. instruction_after i w (reply_with 0)) (sym ends) in
-          made u e events (what.End part) is refl by_itself.0 (ap (λ (m : Machine). m.events) (step_is setup u h (Ends part after) below ends))
+          made u e events (what.End part) is refl by_itself.0
+          (ap (λ (m : Machine). m.events) (step_is setup u h (Ends part after) below (next_ends setup u h part after ends)))
           (again (step setup u h) next (subst (λ (j : Instruction). FollowsFrom setup j events) (sym at) k.0.1) k.2)
       by again (what.Handover to) is =
           let k : Knows (what.Handover to) = subst Knows is knows in

@@ -27,4 +27,5 @@ pub mod Following
 pub mod Merging
 pub mod Banks
 pub mod WaitingHarts
+pub mod ParkedStories
 mod Examples

@@ -170,10 +170,7 @@ woken-pulse s left h woken =
     ap (λ b. waits_in (if b then stands_as now h stand.Runs else now) h) woken ∙ set_none now.harts h _ refl in
     ap (λ b. if b then 1 else 0) (waits-wakes (runs_if_woken now h) h ∙ ran)
 
--- Over a list.
-
-pub devices-push : (harts : ℕ) (made : List Done) (d : Done) → devices harts (made ++ d ∷ []) ≡ device_step (devices harts made) d.hart d.access
-devices-push harts made d = fold_push (λ s (e : Done). device_step s e.hart e.access) (devices_start harts) made d
+-- At the start.
 
 start_list : (harts h : ℕ) → waits_at (devices_start harts).harts h ≡ false
 start_list zero h = refl

@@ -40,9 +40,10 @@ accesses_of [] = []
 accesses_of (e ∷ events) = access_in e.hart.0 e.what ++ accesses_of events
 
 -- the reply to an access at a bank after the accesses that this bank had
-abbrev pub reply_at : Setup → List ℕ → List Done → ℕ → Access → Reply
-reply_at setup input made hart access =
-    if is_ram_access access then flat setup.image made hart access else reply_after setup.harts input made hart access
+abbrev pub reply_at : Setup → List Done → ℕ → Access → Reply
+reply_at setup made hart access =
+    if is_ram_access access then flat setup.image made hart access
+    else reply_after setup.harts setup.input made hart access
 
 -- a pulse of a hart that waits is made only where that hart is woken
 abbrev pub IsProper : ℕ → List Done → ℕ → Access → Type 0
@@ -50,15 +51,15 @@ IsProper harts made hart (acc.Pulse tick) = is_unwoken (hart_at (devices harts m
 IsProper harts made hart other = Unit {0}
 
 -- an access belongs to this bank, and its reply is that of the bank's accesses before it
-pub record IsAnswered (setup : Setup) (input : List ℕ) (banks bank : ℕ) (made : List Done) (hart : ℕ) (access : Access) (reply : Reply) : Type 0 where
+pub record IsAnswered (setup : Setup) (banks bank : ℕ) (made : List Done) (hart : ℕ) (access : Access) (reply : Reply) : Type 0 where
   pub here : bank_of_access banks access ≡ bank
-  pub reply_is : reply ≡ reply_at setup input made hart access
+  pub reply_is : reply ≡ reply_at setup made hart access
   pub proper : IsProper setup.harts made hart access
 
-module _ (setup : Setup) (input : List ℕ) (banks bank : ℕ) where
+module _ (setup : Setup) (banks bank : ℕ) where
   -- what happens at a bank is an access
   abbrev pub IsAt : List Done → ℕ → What → Type 0
-  IsAt made hart (what.Acc access reply) = IsAnswered setup input banks bank made hart access reply
+  IsAt made hart (what.Acc access reply) = IsAnswered setup banks bank made hart access reply
   IsAt made hart other = ⊥
 
   -- each of these events is answered after the accesses before it

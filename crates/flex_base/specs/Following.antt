@@ -2,7 +2,8 @@
 use Rattle.std.specs.Prelude.{◌≡◌, ℕ, Bool, false, ◌&&◌, ◌==◌, List, [], ◌∷◌, fold, Option, None, Some}
 use Rattle.flex_base.specs.Setup.{Setup}
 use Rattle.flex_base.specs.State.{State, start}
-use Rattle.flex_base.specs.Story.{Want, Asks, Ends, ask}
+use Rattle.flex_base.specs.StoryTree.{Want, Asks, Ends, IsParked}
+use Rattle.flex_base.specs.Story.{ask}
 use Rattle.flex_base.specs.Unsplit.{Instruction, instruction_from, instruction_after}
 use Rattle.flex_base.specs.Forms.{HasForm}
 use Rattle.flex_base.specs.FlatMemory.{reply_with}
@@ -14,9 +15,10 @@ use Rattle.flex_base.specs.declared.event.Event.{Event}
 use Rattle.flex_base.specs.declared.event.What.{What}
 use Rattle.flex_base.specs.declared.event.What.TheVariants as what
 
--- the access that a hart makes next, where it makes one
+-- the access that a hart makes next, where it makes one; a parked hart makes a pulse without tick
 abbrev pub next_access : Want → Option Access
 next_access (Asks access) = Some access
+next_access IsParked = Some (acc.Pulse false)
 next_access other = None
 
 -- an instruction before its first event, at the entry of the image
