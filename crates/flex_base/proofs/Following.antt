@@ -1,5 +1,5 @@
 -- A list of events that follows a hart's story, and the unsplit machine.
-use Rattle.std.proofs.Common.{◌≡◌, ℕ, ◌<◌, Bool, true, false, not, List, [], ◌∷◌, ◌++◌, map, cond, length, refl, ap, sym, subst, ◌∙◌, Some, append-nil, append_assoc}
+use Rattle.std.proofs.Common.{◌≡◌, ℕ, ◌<◌, Bool, true, false, not, List, [], ◌∷◌, ◌++◌, map, cond, length, refl, ap, sym, subst, ◌∙◌, None, Some, append-nil, append_assoc}
 use Rattle.std.specs.List.{filter}
 use Rattle.std.proofs.lemmas.List.FromFn.{length-map-range_with_len}
 use Rattle.std.proofs.lemmas.List.Sums.{fold_push}
@@ -9,7 +9,7 @@ use Rattle.flex_base.specs.StoryTree.{Want, Asks, Ends, IsParked}
 use Rattle.flex_base.specs.FlatMemory.{reply_with}
 use Rattle.flex_base.specs.Unsplit.{Machine, Instruction, instruction_from, instruction_at, instruction_after, Made, does, begin, want_of, is_woken_in, next_of, resumes, reply_to, step, reach_from, unsplit}
 use Rattle.flex_base.specs.Journal.{is_handover, strip, order_of}
-use Rattle.flex_base.specs.Following.{next_access, wanted, MayDo, instruction_then, FollowsFrom, leads_to, Follows, waits_after, is_waiting}
+use Rattle.flex_base.specs.Following.{next_access, wanted, MayDo, instruction_then, FollowsFrom, leads_to, Follows, waits_after, is_waiting, reserved_after, last_reserved, engine_after, last_engine}
 use Rattle.flex_base.specs.declared.access.Access.{Access}
 use Rattle.flex_base.specs.declared.access.Access.TheVariants as acc
 use Rattle.flex_base.specs.declared.event.Event.{Event}
@@ -56,6 +56,14 @@ is_waiting-none = refl
 pub is_waiting-push : (events : List Event) (e : Event) → is_waiting (events ++ e ∷ []) ≡ waits_after (is_waiting events) e.what
 unfolding is_waiting
 is_waiting-push events e = fold_push (λ was (x : Event). waits_after was x.what) false events e
+
+pub last_reserved-push : (events : List Event) (e : Event) → last_reserved (events ++ e ∷ []) ≡ reserved_after (last_reserved events) e.what
+unfolding last_reserved
+last_reserved-push events e = fold_push (λ own (x : Event). reserved_after own x.what) None events e
+
+pub last_engine-push : (events : List Event) (e : Event) → last_engine (events ++ e ∷ []) ≡ engine_after (last_engine events) e.engine e.what
+unfolding last_engine
+last_engine-push events e = fold_push (λ last (x : Event). engine_after last x.engine x.what) None events e
 
 -- A hart alone.
 

@@ -28,4 +28,6 @@ pub mod Merging
 pub mod Banks
 pub mod WaitingHarts
 pub mod ParkedStories
+pub mod ReservedLogs
+pub mod SentLogs
 mod Examples

@@ -1,5 +1,5 @@
 -- A hart that was told that it waits is parked in its story, and one that asks an access or comes to its end doesn't wait.
-use Rattle.std.proofs.Common.{◌≡◌, ℕ, ◌+◌, Bool, true, false, if◌then◌else◌, ◌&&◌, ◌==◌, List, [], ◌∷◌, ◌++◌, Option, None, Some, refl, ap, sym, subst, ◌∙◌}
+use Rattle.std.proofs.Common.{◌≡◌, ℕ, ◌+◌, Bool, true, false, if◌then◌else◌, ◌==◌, List, [], ◌∷◌, Option, None, Some, refl, sym, subst}
 use Rattle.std.specs.Prelude.{fold}
 use Rattle.flex_base.specs.Causes.{instruction_address_misaligned, instruction_access_fault, load_access_fault, store_access_fault, misaligned, access_fault}
 use Rattle.flex_base.specs.Setup.{Setup}
@@ -8,14 +8,14 @@ use Rattle.flex_base.specs.Place.{in_ram, place_of}
 use Rattle.flex_base.specs.Word.{wrap, is_multiple}
 use Rattle.flex_base.specs.Decoding.{decoded}
 use Rattle.flex_base.specs.FlatMemory.{reservation_set, is_reserved, reply_with}
-use Rattle.flex_base.specs.StoryTree.{Want, Asks, Ends, IsOver, IsParked, Story, Says, Closes, StaysOver, Parks, goes, want, after_one, after_park}
+use Rattle.flex_base.specs.StoryTree.{Want, Asks, Ends, IsParked, Story, Says, Closes, StaysOver, Parks, goes, want, after_one, after_park}
 use Rattle.flex_base.specs.Ends.{jumps, ends, computes, passes, traps, traps_illegal, returns, concludes}
 use Rattle.flex_base.specs.Translating.{translates}
-use Rattle.flex_base.specs.Story.{story, pulses, after_pulse, begins, interrupted_by, fetches, fetches_at, works, branches, is_taken, supervises, is_machine, closes_csr, updates_csr, asks_csr, uses_csr, fences_memory, at_place, has_pending, ends_wait, after_wait, waits, reaches, in_ram_at, loads_at, stores_at, loads_reserved_at, stores_conditional_at, modifies_at, is_tick}
+use Rattle.flex_base.specs.Story.{story, pulses, after_pulse, begins, interrupted_by, fetches_at, works, branches, is_taken, supervises, is_machine, closes_csr, updates_csr, asks_csr, uses_csr, fences_memory, at_place, has_pending, ends_wait, waits, reaches, in_ram_at, loads_at, stores_at, loads_reserved_at, stores_conditional_at, modifies_at, is_tick}
 use Rattle.flex_base.specs.Csrs.{TVM, TW, TSR}
 use Rattle.flex_base.specs.Traps.{mret, sret, takeable}
 use Rattle.flex_base.specs.Zicsr.{CSR_TIME, reads_csr, writes_csr, csr_operand, csr_result, may_use_csr, is_pending_csr, csr_value}
-use Rattle.flex_base.specs.Unsplit.{Instruction, instruction_from, instruction_after}
+use Rattle.flex_base.specs.Unsplit.{Instruction, instruction_after}
 use Rattle.flex_base.specs.Following.{next_access, first_instruction, wanted, MayDo, instruction_then, FollowsFrom, leads_to, Follows, instruction_of, waits_by, waits_after, is_waiting}
 use Rattle.flex_base.specs.declared.access.Access.{Access}
 use Rattle.flex_base.specs.declared.access.Access.TheVariants as acc

@@ -1,7 +1,5 @@
 -- Which hart waits, by what it was told: what the devices keep of it and its own replies agree.
-use Rattle.std.proofs.Common.{◌≡◌, ◌≢◌, ℕ, zero, suc, Bool, true, false, ◌&&◌, ◌==◌, if◌then◌else◌, List, [], ◌∷◌, ◌++◌, map, slice_set, slice_index_or, Option, None, Some, refl, ap, sym, ◌∙◌, get_or-set_other}
-use Rattle.std.proofs.lemmas.List.Sums.{fold_push}
-use Rattle.flex_base.specs.FlatMemory.{Done}
+use Rattle.std.proofs.Common.{◌≡◌, ◌≢◌, ℕ, zero, suc, Bool, true, false, ◌&&◌, ◌==◌, if◌then◌else◌, List, [], ◌∷◌, map, slice_set, slice_index_or, Option, None, Some, refl, ap, sym, ◌∙◌, get_or-set_other}
 use Rattle.flex_base.specs.Word.{low, field}
 use Rattle.flex_base.specs.Devices.{DeviceState, hart_at, hart_start, set_hart, is_interrupted, wakes, wakes_hart, wakes_standing, is_woken, still_waits, is_unwoken, all_at_rest, some_unwoken, all_spent, stands_as, runs_if_woken, stops, Register, Finisher, Msip, Mtimecmp, Mtime, register_at, stores, finishes, FINISHER_PASS, FINISHER_FAIL, next_alarm, jumps_to, rests, spends, next_mtime, device_step, devices, devices_start, reply_in}
 use Rattle.flex_base.specs.Following.{waits_by}

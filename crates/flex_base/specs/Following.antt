@@ -7,6 +7,7 @@ use Rattle.flex_base.specs.Story.{ask}
 use Rattle.flex_base.specs.Unsplit.{Instruction, instruction_from, instruction_after}
 use Rattle.flex_base.specs.Forms.{HasForm}
 use Rattle.flex_base.specs.FlatMemory.{reply_with}
+use Rattle.flex_base.specs.Reservations.{reserving}
 use Rattle.flex_base.specs.declared.access.Access.{Access}
 use Rattle.flex_base.specs.declared.access.Access.TheVariants as acc
 use Rattle.flex_base.specs.declared.access.Reply.{Reply}
@@ -76,6 +77,14 @@ waits_after was other = was
 -- the hart waits after these events of its own
 unfoldable pub is_waiting : List Event → Bool
 is_waiting events = fold (λ was (e : Event). waits_after was e.what) false events
+
+-- the set of the hart's last load-reserved, where no store-conditional came after it
+abbrev pub reserved_after : Option ℕ → What → Option ℕ
+reserved_after own (what.Acc access reply) = reserving own access
+reserved_after own other = own
+
+unfoldable pub last_reserved : List Event → Option ℕ
+last_reserved events = fold (λ own (e : Event). reserved_after own e.what) None events
 
 -- the engine of the last event that is no handover
 abbrev pub engine_after : Option Engine → Engine → What → Option Engine
