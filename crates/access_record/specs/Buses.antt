@@ -1,7 +1,7 @@
 -- What a bus asks of a hart's pass, and what it does to it.
 use Rattle.std.specs.Prelude.{◌≡◌, ℕ, ◌-◌, ◌<◌, Bool, true, List, [], ◌∷◌, ◌++◌, map, length, Option, Some}
 use Rattle.flex_base.specs.Setup.{Setup}
-use Rattle.flex_base.specs.Story.{Asks}
+use Rattle.flex_base.specs.StoryTree.{Asks}
 use Rattle.flex_base.specs.Unsplit.{Instruction}
 use Rattle.flex_base.specs.Devices.{hart_at, is_unwoken, is_transmit, devices, sent_bytes}
 use Rattle.flex_base.specs.Following.{wanted, Follows, instruction_of, is_waiting, last_engine}
@@ -17,11 +17,10 @@ use Rattle.access_record.specs.declared.entry.LogEntry.{LogEntry}
 use Rattle.access_record.specs.Logs.{Ascends, log_entry}
 use Rattle.access_record.specs.Passes.{RecordIdentity, PassOfHart}
 
--- what a bus is of: its record, the image and settings, and the input of the console
+-- what a bus is of: its record; and the image, the settings and the console's input
 pub record Run : Type 0 where
   pub book : RecordIdentity
   pub setup : Setup
-  pub input : List ℕ
 
 -- how many banks RAM has; the devices are the bank of this number
 abbrev pub ram_banks : Run → ℕ

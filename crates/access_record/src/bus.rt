@@ -15,7 +15,7 @@ use flex_base::{Access, Engine, Reply};
 pub trait Bus {
     ghost use Rattle.access_record.specs.Buses.{Run};
 
-    /// The record, the image and settings, and the console input that the bus is of.
+    /// The record that the bus is of, and the image, the settings and the console input.
     ghost run: { Self → Run };
 
     /// Makes the access that the hart asks, and answers its number and the reply, which has the
