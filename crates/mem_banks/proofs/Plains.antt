@@ -151,7 +151,7 @@ pub plain-begins : (run : Run) (settings : Settings) (image : Loaded) (banks : �
     → IsOfImage image settings run.setup → run.setup.harts ≡ settings.harts → run.setup.budget ≡ settings.budget → run.book.limits.banks ≡ banks + 1
     → is_lawful settings ≡ true → is_bank_count banks ≡ true → settings.harts * settings.budget ≤ 262144
     → length lines ≡ banks → AreMade image settings banks lines
-    → devices.IsReplay run.setup.harts run.input [] d → d.console.room ≡ room_for settings.harts settings.budget → d.console.keeps ≡ true
+    → devices.IsReplay run.setup.harts run.setup.input [] d → d.console.room ≡ room_for settings.harts settings.budget → d.console.keeps ≡ true
     → slots ≡ new_slots run.book (banks + 1) → IsPlain run lines d slots
 plain-begins run settings image banks lines d slots of_image harts budget count lawful counted few all made replay room keeps slots_are =
     let some = some_bank banks counted in

@@ -45,9 +45,9 @@ returns-clause-kept c = λ run asked.
       devices = subst (λ l. AreDevicesOf run c.act-reply.new.self l) (sym log_is)
           (devices_push run c.args.devices.now c.act-reply.new.self was pass.hart c.args.engine c.args.acc reply c.note_at-pass.result.1
           kept asked.may.ready.hart asked.device
-          (subst (λ (h : HartId). reply ≡ reply_after run.setup.harts run.input made h.0 c.args.acc) hart_is (c.act-reply.ensures.reply run.setup.harts run.input made kept.replay))
+          (subst (λ (h : HartId). reply ≡ reply_after run.setup.harts run.setup.input made h.0 c.args.acc) hart_is (c.act-reply.ensures.reply run.setup.harts run.setup.input made kept.replay))
           (proper_by run.setup.harts made pass.hart.0 c.args.acc waits)
-          (subst (λ (h : HartId). IsReplay run.setup.harts run.input (with_access made h.0 c.args.acc reply) c.act-reply.new.self) hart_is (c.act-reply.ensures.replay run.setup.harts run.input made kept.replay))
+          (subst (λ (h : HartId). IsReplay run.setup.harts run.setup.input (with_access made h.0 c.args.acc reply) c.act-reply.new.self) hart_is (c.act-reply.ensures.replay run.setup.harts run.setup.input made kept.replay))
           (λ sends. own_bytes dev pass.hart.0 run.setup.budget pass.log was agree (asked.may.console sends))
           c.act-reply.ensures.same);
     }
