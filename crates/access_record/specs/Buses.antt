@@ -1,7 +1,7 @@
 -- What a bus asks of a hart's pass, and what it does to it.
 use Rattle.std.specs.Prelude.{◌≡◌, ℕ, ◌+◌, ◌-◌, ◌<◌, ◌≤◌, Bool, true, List, [], ◌∷◌, ◌++◌, map, length, Option, None, Some}
 use Rattle.flex_base.specs.Setup.{Setup}
-use Rattle.flex_base.specs.Story.{Asks}
+use Rattle.flex_base.specs.StoryTree.{Asks}
 use Rattle.flex_base.specs.Unsplit.{Instruction}
 use Rattle.flex_base.specs.Devices.{hart_at, is_unwoken, is_transmit, devices, sent_bytes}
 use Rattle.flex_base.specs.Following.{wanted, Follows, instruction_of, is_waiting, last_engine}
