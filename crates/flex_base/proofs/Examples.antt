@@ -1,7 +1,6 @@
 -- What the definitions say of some small programs, by computing.
 use Rattle.std.proofs.Common.{◌≡◌, ℕ, zero, suc, true, false, List, [], ◌∷◌, Some, refl}
 use Rattle.std.specs.Prelude.{slice_index_or}
-use Rattle.flex_base.specs.Loaded.{Loaded}
 use Rattle.flex_base.specs.Setup.{Setup}
 use Rattle.flex_base.specs.Decoding.{imm_i, imm_s, imm_b, imm_u, imm_j, rows, decoded}
 use Rattle.flex_base.specs.Csrs as csrs

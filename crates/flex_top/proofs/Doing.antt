@@ -1,5 +1,5 @@
 -- What a command does, by what the outside gave and what came of the run.
-use Rattle.std.proofs.Common.{◌≡◌, ◌≢◌, ℕ, ◌<◌, List, [], Option, None, Some, Result, Ok, Err, inl, inr, refl, ap, sym, subst, ◌∙◌, arith}
+use Rattle.std.proofs.Common.{◌≡◌, ◌≢◌, ℕ, List, [], Option, None, Some, Result, Ok, Err, inl, inr, refl, ap, sym, subst, ◌∙◌, arith}
 use Rattle.std.specs.Prelude.{IfSome, IsErrOf}
 use Rattle.flex_base.specs.Files.{Files, Counts, ChangesFile, ChangesText, Said, SaidPart}
 use Rattle.flex_base.specs.Loaded.{Loaded}

@@ -1,5 +1,5 @@
 -- A step of the player is a step of the machine.
-use Rattle.std.proofs.Common.{◌≡◌, ◌≢◌, ℕ, ◌+◌, ◌*◌, ◌<◌, ◌≤◌, Bool, true, false, not, ◌||◌, ◌&&◌, ◌==◌, if◌then◌else◌, List, [], ◌∷◌, ◌++◌, length, ◌⊎◌, inl, inr, refl, ap, sym, subst, ◌∙◌, arith, get_or, set, length-set, get_or-set_same, get_or-set_other, eq-eqb}
+use Rattle.std.proofs.Common.{◌≡◌, ◌≢◌, ℕ, ◌+◌, ◌*◌, ◌<◌, ◌≤◌, Bool, true, false, not, ◌||◌, ◌&&◌, List, [], ◌∷◌, ◌++◌, length, ◌⊎◌, inl, inr, refl, ap, sym, subst, ◌∙◌, arith, get_or, set, length-set, get_or-set_same, get_or-set_other, eq-eqb}
 use Rattle.std.specs.Prelude.{min, nat_lt, is_some}
 use Rattle.std.specs.List.{list_all}
 use Rattle.std.proofs.lemmas.Bool.{cases_eq, cases_Bool}
@@ -18,7 +18,6 @@ use Rattle.flex_base.specs.Rounds.{turn_of}
 use Rattle.transplant_plan.specs.Split.{Plan, split_event, split_run, first_split}
 use Rattle.flex_base.specs.declared.access.Access.{Access}
 use Rattle.flex_base.specs.declared.access.Access.TheVariants as acc
-use Rattle.flex_base.specs.declared.access.Reply.{Reply}
 use Rattle.flex_base.specs.declared.event.EndPart.{EndPart}
 use Rattle.flex_base.specs.declared.event.What.TheVariants as what
 use Rattle.flex_base.specs.declared.settings.Layout.{Layout}
@@ -32,7 +31,7 @@ use Rattle.hart_story.specs.declared.hart.Hart.{Hart}
 use Rattle.hart_story.specs.declared.progress.Progress.{Progress}
 use Rattle.hart_story.proofs.Asking.{waits_parked, idle_is}
 use Rattle.hart_story.proofs.Needing.{wants_asked, parked_asked}
-use Rattle.devices.specs.View.{DevicesView, ConsoleView, has_room, HasRoom, most_kept, room_for}
+use Rattle.devices.specs.View.{DevicesView, ConsoleView, has_room, HasRoom, most_kept}
 use Rattle.flex_top.specs.Memory.{Serves, ram_after, devices_after}
 use Rattle.flex_top.specs.declared.memory.Memory.{Memory}
 use Rattle.flex_top.specs.Splitting.{splitting_of}

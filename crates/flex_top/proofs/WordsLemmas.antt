@@ -1,5 +1,5 @@
 -- What has no reading, by how many words there are, and which hart a character names.
-use Rattle.std.proofs.Common.{◌≡◌, ◌==◌, ℕ, ◌+◌, ◌-◌, ◌<◌, ◌≤◌, Bool, true, false, List, [], ◌∷◌, ◌++◌, length, Option, None, Some, ◌⊎◌, inl, inr, drop, refl, ap, sym, ◌∙◌, append-nil, arith}
+use Rattle.std.proofs.Common.{◌≡◌, ◌==◌, ℕ, ◌+◌, ◌-◌, ◌<◌, ◌≤◌, Bool, true, false, List, [], ◌∷◌, ◌++◌, length, Option, None, Some, inl, inr, drop, refl, ap, sym, ◌∙◌, append-nil, arith}
 use Rattle.std.specs.Prelude.{MatchOption, nat_eq, option_map, if◌then◌else◌}
 use Rattle.std.specs.List.{list_all, range_with_len, cons_option, starts_with}
 use Rattle.std.specs.Str.Pattern.{FindsTextPrefix}

@@ -254,7 +254,13 @@ impl Player {
         let hart = HartId(h as u8);
         let layout = self.layout();
         let reply = self.memory.act(hart, &access);
-        give(&self.harts[h], &mut self.progress[h], &layout, self.settings.budget, reply);
+        give(
+            &self.harts[h],
+            &mut self.progress[h],
+            &layout,
+            self.settings.budget,
+            reply,
+        );
         self.run.add_access(hart, class, access, reply)?;
         Ok(())
     }

@@ -1,5 +1,5 @@
 -- What a hart asks, and where the replies have led it.
-use Rattle.std.proofs.Common.{◌≡◌, ℕ, ◌<◌, Bool, true, false, ◌||◌, ◌&&◌, ◌==◌, if◌then◌else◌, [], ◌∷◌, ◌++◌, Option, None, Some, refl, ap, sym, subst, ◌∙◌}
+use Rattle.std.proofs.Common.{◌≡◌, ℕ, Bool, true, false, ◌||◌, ◌&&◌, ◌==◌, if◌then◌else◌, [], ◌∷◌, ◌++◌, refl, ap, sym, subst, ◌∙◌}
 use Rattle.flex_base.specs.Forms.{HasForm}
 use Rattle.flex_base.specs.Parked.{Busy, node_of}
 use Rattle.flex_base.specs.Place.{in_ram}

@@ -1,5 +1,5 @@
 -- What a load, a store or an atomic instruction is in the story.
-use Rattle.std.specs.Prelude.{◌≡◌, ℕ, ◌*◌, ◌<◌, Bool, true, if◌then◌else◌, Some}
+use Rattle.std.specs.Prelude.{◌≡◌, ℕ, ◌*◌, ◌<◌, true, if◌then◌else◌, Some}
 use Rattle.flex_base.specs.Word.{low, is_multiple}
 use Rattle.flex_base.specs.Setup.{Setup}
 use Rattle.flex_base.specs.State.{State}

@@ -16,7 +16,7 @@ use Rattle.flex_base.specs.declared.translation.WalkStep.{WalkStep}
 use Rattle.flex_base.specs.declared.translation.WalkStep.TheVariants as step
 use Rattle.sv39.specs.IsAfter.{ahead, entries_left}
 use Rattle.sv39.specs.declared.walk.Walk.{Walk}
-use Rattle.hart_story.specs.Found.{Sees, leaves_of}
+use Rattle.hart_story.specs.Found.{Sees}
 use Rattle.hart_story.specs.Memory.{kind_of, reaching, access_of, asking, device_access_of, asking_device, IsMemoryWork, IsAlignedWork}
 use Rattle.hart_story.specs.Need.{IsReservedFor}
 use Rattle.hart_story.specs.Outcome.{IsOf, outcome_of, is_end, IsSoundOutcome}

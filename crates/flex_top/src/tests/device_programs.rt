@@ -202,7 +202,11 @@ const GREETING: [u32; 9] = [
 fn says_what_was_sent(rt: HostRuntime) -> Result<(), AllocError> {
     let outer = run_to_end(&rt, rt.alloc(), &GREETING, "solo img out --ram=1")?;
     assert!(rt; outer.said() == b"Hi".as_slice());
-    assert_parts(&rt, &outer, &["stop off 0\nhart 0 ends 9 mode m pc 0000000080000024\n"]);
+    assert_parts(
+        &rt,
+        &outer,
+        &["stop off 0\nhart 0 ends 9 mode m pc 0000000080000024\n"],
+    );
     // In the order of the accesses, and not hart by hart.
     let line = "solo img out --ram=1 --harts=2 --budget=5";
     let outer = run_to_end(&rt, rt.alloc(), &GREETING, line)?;

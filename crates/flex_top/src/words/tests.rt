@@ -187,7 +187,10 @@ fn assert_input(
 ) -> Result<(), AllocError> {
     let words = words_of(alloc, line)?;
     let command = read_words(&words);
-    assert!(rt; command.is_some_and(|command| command.input == name), "{line}");
+    assert!(rt;
+        command.is_some_and(|command| command.input == name),
+        "{line}"
+    );
     Ok(())
 }
 

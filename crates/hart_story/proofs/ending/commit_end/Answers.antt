@@ -1,5 +1,5 @@
 -- The end is what the instruction has come to.
-use Rattle.std.proofs.Common.{ℕ, List, Option, true, false, refl, ap, sym, subst, ◌∙◌}
+use Rattle.std.proofs.Common.{ℕ, List, Option, true, refl, ap, sym, subst, ◌∙◌}
 use Rattle.flex_base.specs.Csrs.{AreFit}
 use Rattle.hart_state.specs.IsLatest.{IsLatest}
 use Rattle.hart_state.specs.declared.kept.Kept.{Kept}

@@ -1,5 +1,5 @@
 -- Each reply leads on by one in the story.
-use Rattle.std.proofs.Common.{◌≡◌, ℕ, ◌≤◌, true, ap, sym, subst, ◌∙◌, arith, ◌++◌}
+use Rattle.std.proofs.Common.{◌≡◌, ◌≤◌, true, ap, sym, subst, ◌∙◌, arith, ◌++◌}
 use Rattle.flex_base.specs.State.{State}
 use Rattle.flex_base.specs.StoryTree.{after_one}
 use Rattle.flex_base.specs.Story.{fetches_at}

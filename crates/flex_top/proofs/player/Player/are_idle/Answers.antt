@@ -1,5 +1,5 @@
 -- One hart more makes no event by itself.
-use Rattle.std.proofs.Common.{◌≡◌, ℕ, ◌<◌, true, false, not, ◌⊎◌, inl, inr, refl, sym, subst, ◌∙◌, arith}
+use Rattle.std.proofs.Common.{◌≡◌, ℕ, true, false, not, inl, inr, sym, subst, ◌∙◌, arith}
 use Rattle.std.proofs.lemmas.Bool.{cases_eq}
 use Rattle.flex_base.specs.Unsplit.{want_of, is_idle}
 use Rattle.flex_top.proofs.player.Player.are_idle.Goals as goal

@@ -1,5 +1,5 @@
 -- After the order the rounds, until the run has ended or all of them are made.
-use Rattle.std.proofs.Common.{◌-◌, ◌+◌, ◌<◌, refl, sym, ap, arith, ◌∙◌}
+use Rattle.std.proofs.Common.{◌-◌, ◌+◌, ◌<◌, refl, sym, arith, ◌∙◌}
 use Rattle.flex_base.specs.Unsplit.{hart_numbers}
 use Rattle.flex_base.specs.Rounds.{repeated, most_rounds}
 use Rattle.flex_top.proofs.Rounds.{playing_rounds, playing_round, playing_as, repeated_push, played_all, played_over}
@@ -21,9 +21,14 @@ returns-then-has_ended c = λ setup at.
 pub round-requires : goal.round-requires
 round-requires c =
     let setup = c.requires.at.0 in
-    let reached = c.in_ok-follow.ensures setup c.requires.at.1 in
-    (setup, c.args.order.now, _, _, playing_round setup c.args.order.now c.rounds.counter c.rounds.self
-    (omega (arith, c.rounds-test.true, c.most_rounds-end.ensures setup _ reached)) (c.rounds.invariant setup c.requires.at.1))
+    let reached = c.in_ok-follow.ensures setup c.requires.at.1 in (
+      setup,
+      c.args.order.now,
+      _,
+      _,
+      playing_round setup c.args.order.now c.rounds.counter c.rounds.self
+          (omega (arith, c.rounds-test.true, c.most_rounds-end.ensures setup _ reached)) (c.rounds.invariant setup c.requires.at.1),
+    )
 
 pub rounds-preserved : goal.rounds-preserved
 rounds-preserved c = λ setup at.

@@ -38,15 +38,15 @@ loop-h-preserved c = λ setup order done rest at_first.
     let tells = c.has_ended.ensures setup _ playing.at in
     elim c.if-not-has_ended.branch [
       | then-not-has_ended+in_ok-turn w ↦ (
-          omega (arith, below),
-          rw (w.self-is) (playing_as setup order (so_far ++ h ∷ []) (done ++ range_with_len 0 (h + 1)) later later _ one_more refl
-              (playing_turn setup order so_far later h c.loop-h.self _ playing (sym tells ∙ w.if-not-has_ended.true) (w.in_ok-turn.ensures setup _ playing.at))),
-        )
+        omega (arith, below),
+        rw (w.self-is) (playing_as setup order (so_far ++ h ∷ []) (done ++ range_with_len 0 (h + 1)) later later _ one_more refl
+            (playing_turn setup order so_far later h c.loop-h.self _ playing (sym tells ∙ w.if-not-has_ended.true) (w.in_ok-turn.ensures setup _ playing.at))),
+      )
       | else-not-has_ended w ↦ (
-          omega (arith, below),
-          rw (w.self-is) (playing_as setup order (so_far ++ h ∷ []) (done ++ range_with_len 0 (h + 1)) later later _ one_more refl
-              (playing_over setup order so_far later h c.loop-h.self playing (sym tells ∙ w.if-not-has_ended.false))),
-        )
+        omega (arith, below),
+        rw (w.self-is) (playing_as setup order (so_far ++ h ∷ []) (done ++ range_with_len 0 (h + 1)) later later _ one_more refl
+            (playing_over setup order so_far later h c.loop-h.self playing (sym tells ∙ w.if-not-has_ended.false))),
+      )
     ]
 
 pub returns : goal.returns

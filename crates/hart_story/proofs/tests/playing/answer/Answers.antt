@@ -1,5 +1,5 @@
 -- The reply that the hart is given leads its story on.
-use Rattle.std.proofs.Common.{◌≡◌, ◌∷◌, [], ◌++◌, false}
+use Rattle.std.proofs.Common.{◌∷◌, [], ◌++◌, false}
 use Rattle.flex_base.specs.StoryTree.{Story, goes}
 use Rattle.flex_base.specs.Story.{story}
 use Rattle.flex_base.specs.Setup.{Setup}
