@@ -13,6 +13,7 @@ Left out is, beside what privileged.py leaves out, where the two rightly differ:
 - the end of the input: this line status says that no byte is left, where QEMU has yet to get one;
 - the UART's other registers, which QEMU has, among them those of its interrupt and of the divisor;
 - devices of 8-byte registers but the compare value, and accesses of widths that one of the two doesn't take;
+- more harts than one, since QEMU has no order of their events to be given; so no hart is parked here;
 - an idle run, which QEMU doesn't end, and a power off by a code of 256 or more, of which it tells the low byte.
 """
 import os
