@@ -2,8 +2,8 @@
 
 A program goes between M, S and U by MRET, SRET and traps. Between these it makes CSR instructions, exceptions, and
 instructions on registers and memory. Its handlers mix mcause, mepc, mtval and mstatus (or those of S) and the entry of
-the vector into a register, and step over the instruction. Of an interrupt, the handler in M clears the bit in mip, and
-that in S the one in sie. Compared at the end are the registers, into one of which the bytes of memory are mixed, and
+the vector into a register, and step over the instruction. Of an interrupt, the handler in M clears the bit in mip and
+turns the lines of timer and software interrupt off, and that in S clears the one in sie. Compared at the end are the registers, into one of which the bytes of memory are mixed, and
 the CSRs that a trace shows.
 
 Left out is where the two rightly differ, or where this QEMU (7.2) isn't as the manual says:
@@ -11,7 +11,7 @@ Left out is where the two rightly differ, or where this QEMU (7.2) isn't as the 
   last three is compared;
 - bits that QEMU keeps and this machine doesn't: writes stay within WRITTEN; MPP never gets 2, satp neither a MODE that
   only QEMU has nor an ASID, mtvec and stvec no reserved mode, and their handlers are the only ones;
-- satp with MODE 8 and legal SFENCE.VMA, which paging.py beside this file has, and legal WFI, which isn't built yet;
+- satp with MODE 8 and legal SFENCE.VMA, which paging.py beside this file has, and legal WFI, which devices.py has;
 - misaligned loads and stores, which QEMU does; misaligned SC and AMO, and those outside RAM: there QEMU's SC fails, and
   its AMO traps as a load does;
 - a CSRRS or CSRRC with a register that holds 0, of a read-only number: legal to QEMU;
@@ -65,12 +65,17 @@ ECALL, EBREAK, SRET, MRET, WFI, SFENCE = 0x73, 0x100073, 0x10200073, 0x30200073,
 # No instruction at all, an LR with a source, branches, loads, stores and jumps of no kind, and system instructions.
 ILLEGAL = [0, ALL >> 32, 0x0B, 0x7B, 0x7F, 0x1010A12F, 0x2063, 0x7003, 0x4023, 0x1067, 0x00200073, 0x7FF00073]
 INTERRUPTS = 12
-QEMU = ["qemu-system-riscv64", "-M", "virt", "-m", "64M", "-display", "none", "-monitor", "none"]
+MSIP, MTIMECMP, UART, FINISHER, PASS = 0x2000000, 0x2004000, 0x10000000, 0x100000, 0x5555
 CPU = "rv64,c=false,f=false,d=false,h=false,sstc=false,marchid=0,mimpid=0,mvendorid=0"
+QEMU = ["qemu-system-riscv64", "-M", "virt", "-m", "64M", "-display", "none", "-monitor", "none", "-cpu", CPU]
 
 
-# QEMU's timer interrupt pends until its compare value is set; here nothing stands in the place of these words.
-QUIET = [*constant(SPARE, 0x2004000), addi(PLACE, 0, -1), s_type(0, PLACE, SPARE, 3)]
+def no_alarm(place, value):
+    """Gives the timer a compare value that sets no alarm. QEMU's timer interrupt pends until then."""
+    return [*constant(place, MTIMECMP), addi(value, 0, -1), s_type(0, value, place, 3)]
+
+
+QUIET = no_alarm(SPARE, PLACE)
 
 
 def csr(op, rd, rs1, number):
@@ -89,22 +94,27 @@ def asked_mode(b):
     return [branch_to(0, ASKED, 0, 4 + 4 * len(inner)), *inner]
 
 
-def handler(registers, numbers, ask, returns):
+def lines_off(place, value):
+    """Turns the lines of timer and software interrupt off."""
+    return [*constant(place, MSIP), s_type(0, 0, place, 2), *no_alarm(place, value)]
+
+
+def handler(registers, numbers, ask, lower, returns):
     """The table of a vector and what all of its entries lead to."""
     a, b = registers
     status, epc, cause, tval, cleared = numbers
     step = [csr(RS, b, 0, epc), addi(b, b, 4), csr(RW, 0, b, epc), returns]
     resume = [csr(RW, 0, RESUME, epc), addi(RESUME, 0, 0), returns]
     exception = [*ask, branch_to(1, RESUME, 0, 4 + 4 * len(step)), *step, *resume]
-    interrupt = [addi(b, 0, 1), r_type(0, a, b, 1, b, 0x33), csr(RC, 0, b, cleared), returns]
+    interrupt = [addi(b, 0, 1), r_type(0, a, b, 1, b, 0x33), csr(RC, 0, b, cleared), *lower, returns]
     words = [jump(a, 4 * (INTERRUPTS - entry)) for entry in range(INTERRUPTS)] + mixed(a, b)
     for number in (status, epc, tval, cause):
         words += [csr(RS, a, 0, number), *mixed(a, b)]
     return words + [branch_to(4, a, 0, 4 + 4 * len(exception)), *exception, *interrupt]
 
 
-IN_MACHINE = handler(IN_M, (MSTATUS, MEPC, MCAUSE, MTVAL, MIP), asked_mode(IN_M[1]), MRET)
-IN_SUPERVISOR = handler(IN_S, (SSTATUS, SEPC, SCAUSE, STVAL, SIE), [], SRET)
+IN_MACHINE = handler(IN_M, (MSTATUS, MEPC, MCAUSE, MTVAL, MIP), asked_mode(IN_M[1]), lines_off(*IN_M), MRET)
+IN_SUPERVISOR = handler(IN_S, (SSTATUS, SEPC, SCAUSE, STVAL, SIE), [], [], SRET)
 MACHINE = RAM + 4
 SUPERVISOR = MACHINE + 4 * len(IN_MACHINE)
 VECTORS = {MTVEC: MACHINE, STVEC: SUPERVISOR}
@@ -331,7 +341,7 @@ class Program:
     def begins(self):
         """The handlers, and the registers at the start."""
         self.add(jump(0, 4 * (1 + len(IN_MACHINE) + len(IN_SUPERVISOR))), *IN_MACHINE, *IN_SUPERVISOR)
-        self.add(*[NOTHING] * len(QUIET))
+        self.add(*QUIET)
         self.add(*constant(BASE, RAM + CODE), *[load_double(r, BASE, 8 * r) for r in FREE])
         self.add(addi(PLACE, 0, 0), *[addi(r, 0, 0) for r in range(24, 32)])
         for number in VECTORS:
@@ -374,32 +384,37 @@ def by_flexemu(program, made, data, folder):
     return found
 
 
-def tells():
-    """Stores the registers and CSRs, sends them by the console, and turns the power off."""
+def tells(word):
+    """Stores the registers and CSRs, sends them by the console, and turns the power off by this word."""
     words = [store_double(r, BASE, RESULTS + 8 * r) for r in range(1, 32)]
     for place, number in enumerate(SHOWN):
         words += [csr(RS, 5, 0, number), store_double(5, BASE, RESULTS + 8 * (32 + place))]
-    words += [addi(5, BASE, RESULTS), addi(6, 5, 8 * (32 + len(SHOWN))), *constant(7, 0x10000000)]
+    words += [addi(5, BASE, RESULTS), addi(6, 5, 8 * (32 + len(SHOWN))), *constant(7, UART)]
     is_ready = [i_type(5, 7, 4, 8, 0x03), i_type(0x20, 8, 7, 8, 0x13), branch_to(0, 8, 0, -8)]
     send = [i_type(0, 5, 4, 8, 0x03), s_type(0, 8, 7, 0), addi(5, 5, 1)]
     words += [*is_ready, *send, branch_to(1, 5, 6, -24)]
-    return [*words, *constant(5, 0x5555), *constant(6, 0x100000), s_type(0, 5, 6, 2), TO_ITSELF]
+    return [*words, *constant(5, word), *constant(6, FINISHER), s_type(0, 5, 6, 2), TO_ITSELF]
+
+
+def told_by(words):
+    """The registers and CSRs by their names, as they were sent."""
+    names = ["x0", *[f"x{r}" for r in range(1, 32)], *[f"csr{number:03x}" for number in SHOWN]]
+    return dict(zip(names[1:], struct.unpack(f"<{TOLD // 8}Q", words)[1:]))
+
+
+TOLD = 8 * (32 + len(SHOWN))
 
 
 def by_qemu(made, data, folder):
     with open(os.path.join(folder, "firmware"), "wb") as file:
-        first = 1 + len(IN_MACHINE) + len(IN_SUPERVISOR)
-        words = made.words[:first] + QUIET + made.words[first + len(QUIET):]
-        file.write(image_of([*words, *tells()], data + bytes(0x800)))
-    words = [*QEMU, "-cpu", CPU, "-serial", "file:told", "-bios", "firmware"]
+        file.write(image_of([*made.words, *tells(PASS)], data + bytes(0x800)))
+    words = [*QEMU, "-serial", "file:told", "-bios", "firmware"]
     try:
         subprocess.run(words, cwd=folder, check=True, timeout=20)
     except subprocess.TimeoutExpired:
         return None
     with open(os.path.join(folder, "told"), "rb") as file:
-        told = struct.unpack(f"<{32 + len(SHOWN)}Q", file.read())
-    names = ["x0", *[f"x{r}" for r in range(1, 32)], *[f"csr{number:03x}" for number in SHOWN]]
-    return dict(zip(names[1:], told[1:]))
+        return told_by(file.read())
 
 
 def random_data(chance):

@@ -4,7 +4,7 @@
         .globl  _start
 _start: la      sp, stack_top
         call    main
-        li      t0, 0x100000    # the power register
+        li      t0, 0x100000    # the finisher
         li      t1, 0x5555      # off
         sw      t1, 0(t0)
 halt:   j       halt
