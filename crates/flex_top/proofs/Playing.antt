@@ -244,22 +244,22 @@ at_access setup u player next h access far below at asks hart same harts fars me
 
 -- The player after an end.
 
-pub at_end : (setup : Setup) (u : Machine) (player next : Player) (h : ℕ) (made : EndPart) (after : State) (hart : Hart) → h < setup.harts → IsAt setup u player → want_of setup u h ≡ Ends made after
-    → IsIn setup (instruction_from after) hart begun (layout_of (settings_of setup)) setup.budget
+pub at_end : (setup : Setup) (u : Machine) (player next : Player) (h : ℕ) (made : EndPart) (after : State) (hart : Hart) (far : Progress) → h < setup.harts → IsAt setup u player → want_of setup u h ≡ Ends made after
+    → IsIn setup (instruction_from after) hart far (layout_of (settings_of setup)) setup.budget
     → next.settings ≡ player.settings
-    → next.harts.items ≡ set player.harts.items h hart → next.progress.items ≡ set player.progress.items h begun
+    → next.harts.items ≡ set player.harts.items h hart → next.progress.items ≡ set player.progress.items h far
     → next.memory ≡ player.memory
     → length next.run.engines.items ≡ length player.run.engines.items
     → splitting_of next.run ≡ split_event default_plan (splitting_of player.run) (does h (what.End made))
     → IsAt setup (step setup u h) next
-at_end setup u player next h made after hart below at ends there_in same harts fars memory engines run =
+at_end setup u player next h made after hart far below at ends there_in same harts fars memory engines run =
     let within : h < length u.harts = omega (arith, below, at.halves) in
     let in_progress : h < length player.progress.items = omega (arith, below, at.progress) in
     let in_harts : h < length player.harts.items = omega (arith, below, at.harts) in
     let v = make setup u h (Ends made after) in
-    let far_here : progress_at next h ≡ begun = ap (λ (xs : List Progress). get_or xs h begun) fars ∙ get_or-set_same player.progress.items h begun begun in_progress in
+    let far_here : progress_at next h ≡ far = ap (λ (xs : List Progress). get_or xs h begun) fars ∙ get_or-set_same player.progress.items h far begun in_progress in
     let here = λ (other : Hart).
-    hart_is setup v h (instruction_from after) hart (get_or next.harts.items h other) begun (progress_at next h)
+    hart_is setup v h (instruction_from after) hart (get_or next.harts.items h other) far (progress_at next h)
     (instruction-set u h (instruction_from after) v.harts (instruction_from (start h 0)) within refl)
     (ap (λ (xs : List Hart). get_or xs h other) harts ∙ get_or-set_same player.harts.items h hart other in_harts)
     far_here
@@ -275,11 +275,11 @@ at_end setup u player next h made after hart below at ends there_in same harts f
       settings = same ∙ at.settings;
       halves = length-set u.harts h (instruction_from after) ∙ at.halves;
       harts = ap (λ (xs : List Hart). length xs) harts ∙ length-set player.harts.items h hart ∙ at.harts;
-      progress = ap (λ (xs : List Progress). length xs) fars ∙ length-set player.progress.items h begun ∙ at.progress;
+      progress = ap (λ (xs : List Progress). length xs) fars ∙ length-set player.progress.items h far ∙ at.progress;
       engines = engines ∙ at.engines;
       each = each_by setup u v player next h (instruction_from after) at refl
           (λ k other apart. ap (λ (xs : List Hart). get_or xs k other) harts ∙ get_or-set_other player.harts.items h k hart other apart)
-          (λ k apart. ap (λ (xs : List Progress). get_or xs k begun) fars ∙ get_or-set_other player.progress.items h k begun begun apart)
+          (λ k apart. ap (λ (xs : List Progress). get_or xs k begun) fars ∙ get_or-set_other player.progress.items h k far begun apart)
           here;
       run = split_push default_plan setup.harts u.events (does h (what.End made)) ∙ ap (λ p. split_event default_plan p (does h (what.End made))) at.run ∙ sym run;
       memory = let Serving : Memory → Type 0 = λ m. Serves setup u.ram u.devices m in subst Serving (sym memory) at.memory;

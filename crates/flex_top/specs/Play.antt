@@ -1,11 +1,13 @@
 -- The player of the harts, and the unsplit machine that it plays.
 use Rattle.std.specs.Prelude.{◌≡◌, ℕ, ◌<◌, ◌≤◌, ◌*◌, Bool, true, false, List, [], ◌∷◌, ◌++◌, length, slice_index_or}
 use Rattle.flex_base.specs.Setup.{Setup}
-use Rattle.flex_base.specs.State.{start}
+use Rattle.flex_base.specs.State.{State, start}
+use Rattle.flex_base.specs.StoryTree.{Want, Ends}
 use Rattle.transplant_plan.specs.Assignment.{default_plan}
-use Rattle.flex_base.specs.Unsplit.{Machine, instruction_at, want_of, is_idle, step, reach, reach_from, hart_numbers}
+use Rattle.flex_base.specs.Unsplit.{Machine, instruction_from, instruction_at, want_of, is_idle, step, reach, reach_from, hart_numbers}
 use Rattle.flex_base.specs.Rounds.{turn_of, turns, repeated, most_rounds}
 use Rattle.transplant_plan.specs.Split.{split_run, first_split}
+use Rattle.flex_base.specs.declared.event.EndPart.{EndPart}
 use Rattle.flex_base.specs.declared.settings.Layout.{Layout}
 use Rattle.flex_base.specs.declared.settings.Settings.{Settings}
 use Rattle.hart_story.specs.StandsFor.{StandsFor}
@@ -103,6 +105,12 @@ with_turns setup order done = order ++ turns setup (reach setup order) done
 pub record Playing (setup : Setup) (order done rest : List ℕ) (player : Player) : Type 0 where
   pub all : done ++ rest ≡ repeated (most_rounds setup) (hart_numbers setup)
   pub at : IsAt setup (reach setup (with_turns setup order done)) player
+
+-- the want is this end, and after it the hart and its progress stand for the next instruction
+pub record EndsInto (setup : Setup) (want : Want) (part : EndPart) (hart : Hart) (progress : Progress) (layout : Layout) (budget : ℕ) : Type 0 where
+  pub after : State
+  pub ends : want ≡ Ends part after
+  pub next : IsIn setup (instruction_from after) hart progress layout budget
 
 -- so many harts at their start, in order of their numbers
 pub record AreStarted (entry harts : ℕ) (made : List Hart) : Type 0 where

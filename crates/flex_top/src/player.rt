@@ -1,12 +1,14 @@
 ghost use Rattle.std.specs.Prelude.{◌≡◌, ◌++◌, ◌<◌, List, ℕ, length, IfOk, OnOk};
 ghost use Rattle.flex_base.specs.Setup.{Setup};
-ghost use Rattle.flex_base.specs.Unsplit.{Machine, begin, reach, hart_numbers};
-ghost use Rattle.flex_top.specs.Play.{AreStarted};
+ghost use Rattle.flex_base.specs.State.{State};
+ghost use Rattle.flex_base.specs.Unsplit.{Machine, Instruction, begin, reach, hart_numbers};
+ghost use Rattle.hart_story.specs.Progress.{IsIn, IsEnding, want_in};
+ghost use Rattle.flex_top.specs.Play.{AreStarted, EndsInto};
 
 use crate::memory::Memory;
 use crate::split_run::SplitRun;
-use flex_base::{Access, Class, HartId, Layout, Settings, Stop};
-use hart_story::{Hart, Need, Progress, finish_in_place, give, need};
+use flex_base::{Access, Class, EndPart, HartId, Layout, Settings, Stop};
+use hart_story::{Hart, Need, Progress, finish_in_place, give, lead_in, need};
 use std::alloc::{AllocError, Global};
 use tracer::Tail;
 
@@ -219,7 +221,7 @@ impl Player {
                 Ok(Step::Accessed)
             }
             Need::Finish(class) => {
-                let part = finish_in_place(
+                let part = end_instruction(
                     &mut self.harts[h],
                     &mut self.progress[h],
                     &layout,
@@ -274,6 +276,25 @@ impl Player {
             ram: self.settings.ram,
         }
     }
+}
+
+// Ends a hart's instruction, and leads the hart into the next one.
+#[inline(always)]
+fn end_instruction(
+    hart: &mut Hart,
+    progress: &mut Progress,
+    layout: &Layout,
+    budget: u64,
+) -> EndPart
+    requires { (setup : Setup) × (i : Instruction) × (part : EndPart) × (after : State)
+        × IsIn setup i hart.old progress.old layout.now budget × IsEnding setup i part after }
+    ensures { (setup : Setup) (i : Instruction) (part : EndPart) (after : State)
+        → IsIn setup i hart.old progress.old layout.now budget → IsEnding setup i part after
+        → EndsInto setup (want_in setup i) result hart.new progress.new layout.now budget }
+{
+    let part = finish_in_place(hart, progress, layout, budget);
+    lead_in(hart, progress, layout, budget);
+    part
 }
 
 // So many harts at their start, at this entry.

@@ -1,10 +1,11 @@
 -- What a hart asks, and where the replies have led it.
-use Rattle.std.proofs.Common.{◌≡◌, ℕ, Bool, true, false, ◌||◌, ◌&&◌, ◌==◌, if◌then◌else◌, [], ◌∷◌, ◌++◌, refl, ap, sym, subst, ◌∙◌}
+use Rattle.std.proofs.Common.{◌≡◌, ◌≢◌, ℕ, Bool, true, false, ◌||◌, ◌&&◌, ◌==◌, if◌then◌else◌, [], ◌∷◌, ◌++◌, refl, ap, sym, subst, ◌∙◌, arith}
 use Rattle.flex_base.specs.Forms.{HasForm}
 use Rattle.flex_base.specs.Parked.{Busy, node_of}
 use Rattle.flex_base.specs.Place.{in_ram}
 use Rattle.flex_base.specs.Setup.{Setup}
 use Rattle.flex_base.specs.State.{State}
+use Rattle.flex_base.specs.Word.{is_multiple}
 use Rattle.flex_base.specs.StoryTree.{Want, Asks, Ends, IsOver, IsParked, Story, Says, Closes, StaysOver, Parks, want, after_one}
 use Rattle.flex_base.specs.Reservations.{asked}
 use Rattle.flex_base.specs.Story.{story, after_pulse, begins, fetches_at, is_tick}
@@ -16,14 +17,14 @@ use Rattle.flex_base.specs.declared.event.EndPart.{EndPart}
 use Rattle.flex_base.specs.declared.settings.Layout.{Layout}
 use Rattle.flex_base.specs.declared.translation.Kind.{Kind}
 use Rattle.flex_base.specs.declared.translation.Kind.TheVariants as kind
-use Rattle.flex_base.proofs.Stories.{goes_push, retires}
+use Rattle.flex_base.proofs.Stories.{goes_push, retires, story_undue}
 use Rattle.flex_base.proofs.Standing.{begun_busy}
 use Rattle.sv39.specs.IsAfter.{ahead, entries_left}
 use Rattle.sv39.specs.declared.walk.Walk.{Walk}
 use Rattle.hart_story.specs.Found.{state_at}
 use Rattle.hart_story.specs.Memory.{access_by, access_of, device_access_by, device_access_of, kind_of, reaching}
 use Rattle.hart_story.specs.Outcome.{outcome_of, is_end, IsSoundOutcome}
-use Rattle.hart_story.specs.Progress.{node_at, node, Reached, want_in, is_done, is_parked, IsAsking, leaves_over, IsSoundProgress, IsIn}
+use Rattle.hart_story.specs.Progress.{node_at, node, Reached, want_in, is_done, is_parked, IsAsking, leaves_over, IsSoundProgress, IsHere, IsIn}
 use Rattle.hart_story.specs.Stage.{stage_of, walking, has_begun, is_end_at, is_over_at, is_parked_at, tells_stop, IsReading, IsSoundStage}
 use Rattle.hart_story.specs.declared.hart.Hart.{Hart}
 use Rattle.hart_story.specs.declared.found.Found.{Found}
@@ -92,6 +93,25 @@ node_story setup a p e = ap (node_at setup a p.lines p.found) (begun_is p.stage 
 -- with the lines that it has
 pub begins_with : (setup : Setup) (a : State) (lines : ℕ) → lines ≡ a.lines → begins setup a ≡ begins setup (record a { lines = lines })
 begins_with setup a lines e = ap (λ l. begins setup (record a { lines = l })) (sym e)
+
+-- the story of one that neither retires nor makes a pulse is what begins here
+pub begins_here : (setup : Setup) (a : State) (hart : Hart) (old next : Progress) (layout : Layout) (budget : ℕ)
+    → IsHere setup a hart old layout budget → hart.regs.ends ≢ budget → hart.regs.due ≡ false
+    → begins setup (record a { lines = hart.regs.lines }) ≡ node setup a next → story setup a ≡ node setup a next
+begins_here setup a hart old next layout budget here unspent undue begun =
+    story_undue setup a (λ spent. unspent (omega (arith, here.stands.regs.ends, here.of.budget_is, spent))) (sym here.stands.regs.due ∙ undue)
+    ∙ begins_with setup a hart.regs.lines here.stands.regs.lines ∙ begun
+
+-- and its progress is sound
+pub begun_here : (setup : Setup) (a : State) (hart : Hart) (old next : Progress) (layout : Layout) (budget : ℕ)
+    → IsHere setup a hart old layout budget → (is_multiple hart.regs.pc 4 ≡ true → IsSoundProgress layout hart next)
+    → IsHere setup a hart next layout budget
+begun_here setup a hart old next layout budget here sound = record {
+  of = here.of;
+  stands = here.stands;
+  fit = here.fit;
+  sound = sound (ap (λ p. is_multiple p 4) here.stands.regs.pc ∙ here.fit.aligned);
+}
 
 -- an instruction that ends where it begins
 pub ends_begun : (setup : Setup) (i : Instruction) (p next : Progress) (lines : ℕ) (part : EndPart) (after : State) → Reached setup i p

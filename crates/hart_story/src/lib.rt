@@ -23,7 +23,7 @@ mod work;
 
 pub use hart::Hart;
 pub use progress::{Need, Progress};
-pub use story::{finish, finish_in_place, give, need};
+pub use story::{finish, finish_in_place, give, lead_in, need};
 
 #[cfg(test)]
 mod tests;

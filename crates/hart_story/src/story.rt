@@ -132,6 +132,22 @@ pub fn finish_in_place(
     part
 }
 
+/// Leads a hart at the beginning of an instruction to its fetch, as far as that needs no access; where
+/// it retires or makes a pulse first, nothing changes. What the hart needs is the same, but is found
+/// without beginning again.
+pub fn lead_in(hart: &Hart, progress: &mut Progress, layout: &Layout, budget: u64)
+    ensures same { (setup : Setup) (i : Instruction) → IsIn setup i hart.now progress.old layout.now budget
+        → IsIn setup i hart.now progress.new layout.now budget }
+    ensures no_farther { left progress.new ≤ left progress.old }
+{
+    if progress.has_begun() {
+        return;
+    }
+    if hart.regs.ends != budget && !hart.regs.due {
+        begin(hart, progress, layout, hart.regs.lines);
+    }
+}
+
 // An instruction may end where it begins: an interrupt is taken, or the fetch is an exception.
 fn reach_end(hart: &Hart, progress: &mut Progress, layout: &Layout)
     requires { (setup : Setup) × (i : Instruction) × (part : EndPart) × (after : State) × (budget : ℕ)

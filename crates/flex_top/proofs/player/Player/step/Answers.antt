@@ -1,18 +1,15 @@
 -- What is needed is what the machine's hart wants; the player follows it.
-use Rattle.std.proofs.Common.{◌≡◌, ◌<◌, false, refl, ap, sym, ◌∙◌, length, set, arith}
-use Rattle.flex_base.specs.Unsplit.{instruction_at, instruction_from, want_of}
+use Rattle.std.proofs.Common.{◌≡◌, ◌<◌, false, refl, ap, sym, ◌∙◌, length, arith}
+use Rattle.flex_base.specs.Unsplit.{instruction_at, want_of}
 use Rattle.flex_base.specs.Classes.{class_of_access}
 use Rattle.flex_base.specs.declared.access.Access.TheVariants as acc
 use Rattle.flex_base.specs.declared.class.Class.{Class}
 use Rattle.flex_base.proofs.Machines.{next_asks, next_woken, step_over, step_unwoken}
 use Rattle.flex_base.proofs.Turns.{turn_of-ends, turn_of-over, turn_of-unwoken}
-use Rattle.hart_story.specs.Progress.{IsIn, IsSoundProgress, begun}
 use Rattle.hart_story.specs.Need.{need_of}
 use Rattle.hart_story.specs.declared.progress.Need.TheVariants as need
 use Rattle.hart_story.proofs.Needing.{needs_ask, needs_finish, needs_over, needs_parked}
-use Rattle.flex_top.specs.Play.{layout_of}
-use Rattle.tracer.specs.Trace.{settings_of}
-use Rattle.flex_top.proofs.Playing.{in_hart, at_end, turn_of-next}
+use Rattle.flex_top.proofs.Playing.{in_hart, in_setup, at_end, turn_of-next}
 use Rattle.flex_top.proofs.player.Player.step.Goals as goal
 
 pub make_access-requires-clause-class : goal.make_access-requires-clause-class
@@ -36,8 +33,8 @@ make_access-requires-clause-next c =
     let asks = needs_ask c.in-Ask.access c.in-Ask.class (want_of setup u h) (c.in-Ask.ensures.told setup (instruction_at u h) there) in
     (setup, u, at, next_asks setup u h c.in-Ask.access asks, c.in-Ask.ensures.placed setup (instruction_at u h) there)
 
-pub finish_in_place-part-requires : goal.finish_in_place-part-requires
-finish_in_place-part-requires c =
+pub end_instruction-part-requires : goal.end_instruction-part-requires
+end_instruction-part-requires c =
     let (setup, u, at) = c.requires.at in
     let h = c.args.h in
     let below : h < setup.harts = omega (arith, c.requires.hart, at.harts) in
@@ -57,8 +54,8 @@ add_end-requires-clause-class c =
     (in_hart setup u c.args.self.now h c.index.result.now c.index-2.result.now c.layout-layout.result at below c.index.ensures c.index-2.ensures c.layout-layout.ensures) in
     let ending = needs_finish class (want_of setup u h) told in
     let there = in_hart setup u c.args.self.now h c.index_mut.result.now c.index_mut-in-Finish.result.now c.layout-layout.result at below c.index_mut.ensures.value c.index_mut-in-Finish.ensures.value c.layout-layout.ensures in
-    let ended = c.finish_in_place-part.ensures.ends setup (instruction_at u h) ending.part ending.after there ending.ends in
-    let same : need.Finish class ≡ need.Finish c.finish_in_place-part.result.class = told ∙ ap need_of ended.ends in
+    let ended = c.end_instruction-part.ensures setup (instruction_at u h) ending.part ending.after there ending.ends in
+    let same : need.Finish class ≡ need.Finish c.end_instruction-part.result.class = told ∙ ap need_of ended.ends in
     cc
 
 pub make_access-requires-then-woken-clause-next : goal.make_access-requires-then-woken-clause-next
@@ -95,18 +92,11 @@ returns-in_ok-add_end-in-Finish-clause-after c = λ setup u at.
     (in_hart setup u player h c.index.result.now c.index-2.result.now c.layout-layout.result at below c.index.ensures c.index-2.ensures c.layout-layout.ensures) in
     let ending = needs_finish c.in-Finish.class (want_of setup u h) told in
     let there = in_hart setup u player h c.index_mut.result.now c.index_mut-in-Finish.result.now c.layout-layout.result at below c.index_mut.ensures.value c.index_mut-in-Finish.ensures.value c.layout-layout.ensures in
-    let made = c.finish_in_place-part in
-    let ended = made.ensures.ends setup i ending.part ending.after there ending.ends in
-    let sound : IsSoundProgress (layout_of (settings_of setup)) made.new.hart begun = record { stage = tt; found = tt } in
-    let hart : IsIn setup (instruction_from ended.after) made.new.hart begun (layout_of (settings_of setup)) setup.budget = record {
-      of = (at.each h c.index.result.now below).of;
-      stands = ended.stands;
-      fit = ended.fit;
-      reached = refl;
-      sound = sound;
-    } in
+    let made = c.end_instruction-part in
+    let ended = made.ensures setup i ending.part ending.after there ending.ends in
+    let next = in_setup setup u player _ _ _ _ at c.layout-layout.ensures ended.next in
     record {
-      at = at_end setup u player _ h made.result ended.after made.new.hart below at ended.ends hart refl refl (ap (λ p. set player.progress.items h p) made.ensures.begun) refl
+      at = at_end setup u player _ h made.result ended.after made.new.hart made.new.progress below at ended.ends next refl refl refl refl
           c.in_ok-add_end-in-Finish.ensures.size c.in_ok-add_end-in-Finish.ensures.event;
       names = turn_of-ends setup u h ending.part ending.after ending.ends;
     }
