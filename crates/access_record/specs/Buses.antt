@@ -1,5 +1,5 @@
 -- What a bus asks of a hart's pass, and what it does to it.
-use Rattle.std.specs.Prelude.{◌≡◌, ℕ, ◌-◌, ◌<◌, Bool, true, List, [], ◌∷◌, ◌++◌, map, length, Option, Some}
+use Rattle.std.specs.Prelude.{◌≡◌, ℕ, ◌+◌, ◌-◌, ◌<◌, ◌≤◌, Bool, true, List, [], ◌∷◌, ◌++◌, map, length, Option, None, Some}
 use Rattle.flex_base.specs.Setup.{Setup}
 use Rattle.flex_base.specs.StoryTree.{Asks}
 use Rattle.flex_base.specs.Unsplit.{Instruction}
@@ -85,6 +85,12 @@ pub record Extends (old new : PassOfHart) (entry : Entry) (bank : Option ℕ) (n
   pub hart : new.hart ≡ old.hart
   pub log : new.log ≡ old.log ++ log_entry entry old.hart bank number ∷ []
   pub above : Ascends 0 number old.log
+
+-- what a bus tells of the numbers before and after it gives one: a bus of one thread gives numbers that rise, and one
+-- that threads share says nothing of them
+abbrev pub InOrder : Option ℕ → ℕ → Option ℕ → Type 0
+InOrder None number after = after ≡ None
+InOrder (Some least) number after = (least ≤ number) × (after ≡ Some (number + 1))
 
 -- the pass of the same hart and record, with the same log, which has looked at the devices
 pub record HasLooked (old new : PassOfHart) : Type 0 where
