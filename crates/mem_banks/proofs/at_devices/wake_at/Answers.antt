@@ -1,4 +1,4 @@
-use Rattle.std.proofs.Common.{rules, ◌≡◌, true, false, Some, ◌++◌, ◌∷◌, [], List, refl, ap, sym, ◌∙◌, subst}
+use Rattle.std.proofs.Common.{rules, ◌≡◌, ℕ, ◌+◌, true, false, Some, ◌++◌, ◌∷◌, [], List, refl, ap, sym, ◌∙◌, subst}
 use Rattle.flex_base.specs.Unsplit.{with_access}
 use Rattle.flex_base.specs.Devices.{reply_after, devices, woken, input_left, hart_at, is_unwoken}
 use Rattle.flex_base.specs.Banks.{accesses_of}
@@ -10,7 +10,7 @@ use Rattle.devices.specs.View.{IsReplay}
 use Rattle.access_record.specs.declared.entry.LogEntry.{LogEntry}
 use Rattle.access_record.specs.Logs.{on_bank, of_hart}
 use Rattle.access_record.specs.Buses.{events_of, ram_banks}
-use Rattle.mem_banks.specs.Slots.{pass_of, log_in}
+use Rattle.mem_banks.specs.Slots.{pass_of, log_in, seen_in}
 use Rattle.mem_banks.specs.Kept.{AreDevicesOf}
 use Rattle.mem_banks.proofs.Bytes.{entry_of}
 use Rattle.mem_banks.proofs.Keeping.{devices_push, waits_at}
@@ -60,10 +60,11 @@ returns-clause-kept c = λ run asked.
     let told : woken run.setup.harts made pass.hart.0 ≡ true =
     ap (λ (h : HartId). woken run.setup.harts made h.0) (sym first_is) ∙ sym (c.woken.ensures.woken run.setup.harts run.setup.input made kept.replay) ∙ search rules in
     let e = entry_of pass.hart c.args.engine pulse reply dev c.note_at-pass.result.1 in
-    let now_is : c.note_at-pass.new.slot ≡ Some (pass_of run.book dev (was ++ e ∷ [])) = search rules in
+    let now_is : c.note_at-pass.new.slot ≡ Some (pass_of run.book dev (was ++ e ∷ []) (c.note_at-pass.result.1 + 1)) = search rules in
     let log_is = ap log_in now_is in
+    let seen_is = ap seen_in now_is in
     record {
-      pass = now_is ∙ ap (λ l. Some (pass_of run.book dev l)) (sym log_is);
+      pass = now_is ∙ ap (λ (x : List LogEntry × ℕ). Some (pass_of run.book dev x.0 x.1)) (λ i. (sym log_is i, sym seen_is i));
       devices = subst (λ l. AreDevicesOf run c.act-reply.new.self l) (sym log_is)
           (devices_push run c.args.devices.now c.act-reply.new.self was pass.hart c.args.engine pulse reply c.note_at-pass.result.1
           kept asked.ready.hart refl

@@ -18,6 +18,7 @@ invariant_of-bus c =
       plain-begins run c.args.settings.now c.args.image.now c.args.banks c.in_ok-lines.lines.items c.in_ok-devices.devices c.enrol_banks-founder.result.1.items
           of_image refl refl count c.requires.lawful c.requires.banks c.requires.few (search rules) c.in_ok-lines.ensures.each
           replay c.in_ok-devices.ensures.room c.in_ok-devices.ensures.keeps slots,
+      record { bank = search rules; seen = λ slot. search rules },
       search rules,
       search rules,
     )
