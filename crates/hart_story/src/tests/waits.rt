@@ -108,17 +108,28 @@ fn still_waits(lines: u64) -> Reply {
     }
 }
 
-// A stop leaves a hart nothing to do that waits, is parked, or only makes a pulse.
+// A stop leaves a hart nothing to do that waits, only makes a pulse, or is parked.
 fn stops_where_it_waits(rt: &impl Abort) {
+    stops_at_once(rt, 0);
+    stops_at_once(rt, 0x2);
+    stops_where_it_is_parked(rt);
+}
+
+fn stops_at_once(rt: &impl Abort, mip: u64) {
     let layout = layout();
-    for (mip, parks) in [(0, false), (0, true), (0x2, false)] {
-        let hart = hart_in(Mode::M, &[(MIP, mip), (MIE, 0x2)]);
-        let mut progress = begin(rt, &hart, &layout, BUDGET);
-        answer(rt, &hart, &mut progress, &layout, BUDGET, word(WFI));
-        if parks {
-            answer(rt, &hart, &mut progress, &layout, BUDGET, still_waits(0));
-        }
-        answer(rt, &hart, &mut progress, &layout, BUDGET, stop(0x2));
-        assert_eq!(rt; need(&hart, &progress, &layout, BUDGET), Need::Over);
-    }
+    let hart = hart_in(Mode::M, &[(MIP, mip), (MIE, 0x2)]);
+    let mut progress = begin(rt, &hart, &layout, BUDGET);
+    answer(rt, &hart, &mut progress, &layout, BUDGET, word(WFI));
+    answer(rt, &hart, &mut progress, &layout, BUDGET, stop(0x2));
+    assert_eq!(rt; need(&hart, &progress, &layout, BUDGET), Need::Over);
+}
+
+fn stops_where_it_is_parked(rt: &impl Abort) {
+    let layout = layout();
+    let hart = hart_in(Mode::M, &[(MIE, 0x2)]);
+    let mut progress = begin(rt, &hart, &layout, BUDGET);
+    answer(rt, &hart, &mut progress, &layout, BUDGET, word(WFI));
+    answer(rt, &hart, &mut progress, &layout, BUDGET, still_waits(0));
+    answer(rt, &hart, &mut progress, &layout, BUDGET, stop(0x2));
+    assert_eq!(rt; need(&hart, &progress, &layout, BUDGET), Need::Over);
 }

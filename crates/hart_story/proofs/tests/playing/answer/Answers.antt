@@ -24,8 +24,8 @@ returns-in-Ask g c =
     let asks = needs_asked c.in-Ask.access c.in-Ask.field-1 (here setup i) (c.in-Ask.ensures.told setup i at) in
     (setup, (record i { replies = i.replies ++ c.args.reply ∷ [] }), c.give.ensures.reached setup i c.in-Ask.access at asks)
 
-pub give-in-Parked-requires : goal.give-in-Parked-requires
-give-in-Parked-requires g c =
+pub give-requires-in-Parked : goal.give-requires-in-Parked
+give-requires-in-Parked g c =
     let (setup, i, at) = c.requires in
     let asks = needs_pulse (here setup i) (c.in-Parked.ensures.told setup i at) in
     (setup, i, acc.Pulse false, at, asks, c.assert_lines.ensures)
