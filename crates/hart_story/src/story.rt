@@ -139,6 +139,7 @@ pub fn lead_in(hart: &Hart, progress: &mut Progress, layout: &Layout, budget: u6
     ensures same { (setup : Setup) (i : Instruction) → IsIn setup i hart.now progress.old layout.now budget
         → IsIn setup i hart.now progress.new layout.now budget }
     ensures no_farther { left progress.new ≤ left progress.old }
+    ensures begun { hart.now.regs.ends ≢ budget → hart.now.regs.due ≡ false → has_begun progress.new.stage ≡ true }
 {
     if progress.has_begun() {
         return;
