@@ -1,4 +1,4 @@
-mod Totals
+pub mod Totals
 mod Having
 mod Logging
 mod Splitting
@@ -6,3 +6,4 @@ mod Noting
 mod Closing
 mod Taking
 mod Giving
+pub mod Extending

@@ -3,3 +3,4 @@ pub mod Rule
 pub mod Passes
 pub mod Steps
 pub mod Gathered
+pub mod Buses

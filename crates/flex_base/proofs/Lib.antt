@@ -23,4 +23,11 @@ pub mod Fitting
 pub mod Waking
 pub mod Idle
 pub mod Timing
+pub mod Following
+pub mod Merging
+pub mod Banks
+pub mod WaitingHarts
+pub mod ParkedStories
+pub mod ReservedLogs
+pub mod SentLogs
 mod Examples

@@ -28,6 +28,9 @@ pub mod Devices
 pub mod DeviceLaws
 pub mod Parked
 pub mod Unsplit
+pub mod Following
+pub mod Banks
+pub mod Merging
 pub mod Rounds
 pub mod Journal
 pub mod EndOfRun

@@ -5,9 +5,8 @@ use Rattle.flex_base.specs.Limits.{mebibyte}
 use Rattle.flex_base.specs.Word.{is_multiple}
 use Rattle.flex_base.specs.Place.{ram_base, in_ram}
 use Rattle.flex_base.specs.Setup.{Setup}
+pub use Rattle.flex_base.specs.Banks.{bank_of, address_of}
 use Rattle.flex_base.specs.FlatMemory.{Done, byte, covers, reservation_of}
-use Rattle.flex_base.specs.declared.access.Access.{Access}
-use Rattle.flex_base.specs.declared.access.Access.TheVariants as acc
 
 -- the size of the whole RAM in bytes; how many banks there are and which this is; the bytes of its lines, one line after
 -- another; and for each hart the aligned 8 bytes that it has reserved
@@ -21,10 +20,6 @@ pub record Bank : Type 0 where
 -- a power of two from 1 to 64, which are the divisors of 64
 abbrev pub is_bank_count : ℕ → Bool
 is_bank_count banks = is_multiple 64 banks
-
--- the bank of an address: lines of 64 bytes are dealt to the banks in turn
-abbrev pub bank_of : ℕ → ℕ → ℕ
-bank_of banks address = (address / 64) % banks
 
 -- where the bank of an address holds its byte
 unfoldable pub offset : ℕ → ℕ → ℕ
@@ -69,17 +64,6 @@ pub record IsBank (ram banks bank : ℕ) (b : Bank) : Type 0 where
 -- the same bank of the same RAM
 abbrev pub IsSame : Bank → Bank → Type 0
 IsSame old new = IsBank old.ram old.banks old.bank new
-
--- the address of an access of RAM
-abbrev pub address_of : Access → ℕ
-address_of (acc.Fetch address) = address
-address_of (acc.Pte address) = address
-address_of (acc.Read address width) = address
-address_of (acc.Write address width value) = address
-address_of (acc.Lr address width) = address
-address_of (acc.Sc address width value) = address
-address_of (acc.Amo op address width value) = address
-address_of other = 0
 
 -- whole MiB of RAM, of which each bank holds an equal part
 pub record IsWhole (ram banks : ℕ) (bytes : List ℕ) : Type 0 where

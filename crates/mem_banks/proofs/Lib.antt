@@ -1,0 +1,6 @@
+pub mod Bytes
+pub mod Waiting
+pub mod Keeping
+pub mod Plains
+pub mod Ending
+pub mod Trying

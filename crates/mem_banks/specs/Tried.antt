@@ -1,0 +1,13 @@
+-- What the tests keep of a hart whose accesses no story asks.
+use Rattle.std.specs.Prelude.{◌≡◌, ℕ, ◌+◌, ◌<◌, ◌≤◌, Bool, length}
+use Rattle.access_record.specs.Passes.{PassOfHart}
+use Rattle.access_record.specs.Buses.{Run, NamePlaces, bytes_sent, waits}
+
+-- whether the hart waits, for how many more accesses its log has room, and how many more bytes it may send
+pub record IsTried (run : Run) (pass : PassOfHart) (waiting : Bool) (left bytes : ℕ) : Type 0 where
+  pub book : pass.id ≡ run.book.id
+  pub hart : pass.hart.0 < run.setup.harts
+  pub room : length pass.log + left ≤ run.book.limits.room
+  pub places : NamePlaces run pass.log
+  pub told : waits pass ≡ waiting
+  pub sent : bytes_sent pass.log + bytes ≤ run.setup.budget

@@ -1,0 +1,22 @@
+//! The memory of a run: its banks, its devices and its record, reached over the trait `Bus`.
+//!
+//! RAM is dealt to the banks in lines of 64 bytes: the bank of an address is the address divided by
+//! 64, modulo the number of banks. What a bank holds is at every moment the replay of the bank's log,
+//! and so it is with the devices. `PlainBus` serves one thread and takes no lock.
+#![tactic(auto)]
+
+mod at_bank;
+mod at_devices;
+mod end_memory;
+mod ended;
+mod origin;
+mod places;
+mod plain_bus;
+mod slots;
+
+pub use end_memory::EndMemory;
+pub use ended::Ended;
+pub use plain_bus::PlainBus;
+
+#[cfg(test)]
+mod tests;

@@ -1,0 +1,249 @@
+ghost use Rattle.std.specs.Prelude.{◌≡◌, ℕ, ◌+◌, ◌*◌, ◌<◌, ◌≤◌, true, false, [], Some, IfNone, IfOk, IfSome, vec_len, vec_capacity};
+ghost use Rattle.flex_base.specs.Limits.{is_lawful};
+ghost use Rattle.flex_base.specs.Loaded.{image_fits};
+ghost use Rattle.mem_lines.specs.Bank.{is_bank_count};
+ghost use Rattle.access_record.specs.Rule.{occurrences};
+ghost use Rattle.access_record.specs.Passes.{add_hart, new_pass};
+ghost use Rattle.flex_base.specs.Forms.{HasForm};
+ghost use Rattle.access_record.specs.Buses.{place_in, access_entry, waits, Extends, HasLooked, waits_unwoken};
+ghost use Rattle.mem_banks.specs.Kept.{IsReady, MayMake};
+ghost use Rattle.mem_banks.specs.Origins.{run_of};
+ghost use Rattle.mem_banks.specs.Plain.{numbers_below, new_slots, AreMade};
+ghost use Rattle.mem_banks.specs.End.{IsMemoryOf, IsFounderOf, AreHeld, passes_down};
+
+use crate::at_bank::access_bank;
+use crate::at_devices::{access_devices, wake_at};
+use crate::end_memory::{EndMemory, Unsettled};
+use crate::origin::Origin;
+use crate::places::ram_address;
+use access_record::{AccessRecord, BankPass, Bus, Entry, Founder, Pass};
+use devices::Devices;
+use flex_base::{Access, Engine, HartId, Image, Reply, Settings};
+use mem_lines::Lines;
+use std::alloc::{AllocError, Global};
+use std::marker::Model;
+use std::snapshot::Snapshot;
+
+/// The bus of one thread, which takes no lock. It must be spent, by `dissolve`.
+pub struct PlainBus {
+    book: AccessRecord,
+    lines: Vec<Lines>,
+    devices: Devices,
+    // The passes of the banks and, last, of the devices.
+    slots: Vec<Option<BankPass>>,
+    // Where they go when the bus is dissolved.
+    room: Vec<BankPass>,
+    origin: Origin,
+}
+
+impl Model for PlainBus {
+    ghost use Rattle.std.specs.Prelude.{◌≡◌, ◌≤◌, vec_len, vec_capacity};
+    ghost use Rattle.mem_banks.specs.Origins.{run_from};
+    ghost use Rattle.mem_banks.specs.Plain.{Plain, plain_of, IsPlain};
+
+    ghost Value = { Plain };
+
+    ghost view = { λ s. plain_of (run_from s.book s.origin) s.lines.items s.devices s.slots.items };
+
+    ghost invariant = { λ s. IsPlain (run_from s.book s.origin) s.lines.items s.devices s.slots.items
+        × (vec_len s.room ≡ 0) × (s.book.limits.banks ≤ vec_capacity s.room) };
+}
+
+impl Bus for PlainBus {
+    ghost run = { λ s. s.run };
+
+    fn access(&mut self, pass: Pass, engine: Engine, acc: Access) -> (Pass, u64, Reply) {
+        self.make(pass, engine, acc)
+    }
+
+    fn wake(&mut self, pass: Pass, engine: Engine) -> (Pass, Option<(u64, Reply)>) {
+        self.make_pulse(pass, engine)
+    }
+
+    fn note(&mut self, pass: Pass, entry: Entry) -> (Pass, u64) {
+        self.book.note_own(pass, entry)
+    }
+}
+
+impl PlainBus {
+    /// The bus of an image, settings and a console input, where RAM has so many banks: a power of two
+    /// from 1 to 64. Nothing is made yet, and no hart is enrolled.
+    ///
+    /// The settings are lawful and the image fits their RAM. Together the harts make at most 262,144
+    /// ends. Each hart's log has room for 24 events an end and 24 more. An error means that memory
+    /// ran out.
+    pub fn new(
+        alloc: Global,
+        image: &Image,
+        settings: &Settings,
+        banks: u8,
+        input: Vec<u8>,
+    ) -> Result<(PlainBus, Founder), AllocError>
+        requires lawful { is_lawful settings.now ≡ true }
+        requires fits { image_fits settings.now.ram image.now ≡ true }
+        requires banks { is_bank_count banks ≡ true }
+        requires few { settings.now.harts * settings.now.budget ≤ 262144 }
+        ensures run { IfOk result (λ r. r.0.run ≡ run_of r.0.run.book image.now settings.now input.items) }
+        ensures limits { IfOk result (λ r. r.0.run.book.limits
+            ≡ record { harts = settings.now.harts; banks = banks + 1; room = 24 * settings.now.budget + 24 }) }
+        ensures founder { IfOk result (λ r. IsFounderOf r.0.run r.1) }
+        ensures harts { IfOk result (λ r. r.1.harts ≡ []) }
+    {
+        let origin = Origin {
+            image: Snapshot::of(image),
+            settings: *settings,
+            input: Snapshot::of(&input),
+        };
+        let lines = all_lines(alloc, image, settings, banks)?;
+        let devices = Devices::new(alloc, settings, input)?;
+        let all = banks + 1;
+        let slots = Vec::with_capacity(alloc, all as usize);
+        let Ok(slots) = slots else {
+            return Err(AllocError);
+        };
+        let Ok(room) = Vec::with_capacity(alloc, all as usize) else {
+            slots.destroy_empty();
+            return Err(AllocError);
+        };
+        let events = 24 * settings.budget + 24;
+        let Ok((book, founder)) = AccessRecord::new(alloc, settings.harts, all, events) else {
+            slots.destroy_empty();
+            room.destroy_empty();
+            return Err(AllocError);
+        };
+        let (founder, slots) = enrol_banks(&book, founder, slots, all);
+        let bus = PlainBus {
+            book,
+            lines,
+            devices,
+            slots,
+            room,
+            origin,
+        };
+        Ok((bus, founder))
+    }
+
+    /// Enrols a hart of the settings that isn't enrolled yet. Its pass has an empty log.
+    pub fn enrol(&mut self, founder: Founder, hart: HartId) -> (Founder, Pass)
+        requires founder { founder.id ≡ self.old.run.book.id }
+        requires in_range { hart.0 < self.old.run.book.limits.harts }
+        requires not_yet { occurrences hart.0 founder.harts ≡ 0 }
+        ensures founder { result.0 ≡ add_hart founder hart }
+        ensures pass { result.1 ≡ new_pass founder.id hart }
+        ensures same { self.new ≡ self.old }
+    {
+        self.book.enrol_hart(founder, hart)
+    }
+
+    // Makes an access, whether the hart's story asks it or not.
+    pub(crate) fn make(&mut self, pass: Pass, engine: Engine, acc: Access) -> (Pass, u64, Reply)
+        requires may { MayMake self.old.run pass acc }
+        ensures noted { Extends pass result.0 (access_entry engine acc result.2) (Some (place_in self.old.run acc)) result.1 }
+        ensures form { HasForm acc result.2 }
+        ensures same { self.new.run ≡ self.old.run }
+    {
+        match ram_address(&acc) {
+            Some(address) => {
+                let bank = (address / 64 % self.lines.len() as u64) as usize;
+                let lines = &mut self.lines[bank];
+                access_bank(&self.book, lines, &mut self.slots[bank], pass, engine, acc)
+            }
+            None => {
+                let slot = &mut self.slots[self.lines.len()];
+                access_devices(&self.book, &mut self.devices, slot, pass, engine, acc)
+            }
+        }
+    }
+
+    // Makes the pulse of a hart that waits, where it is woken.
+    pub(crate) fn make_pulse(&mut self, pass: Pass, engine: Engine) -> (Pass, Option<(u64, Reply)>)
+        requires ready { IsReady self.old.run pass }
+        requires waits { waits pass ≡ true }
+        ensures woken { IfSome result.1 (λ r. Extends pass result.0 (access_entry engine (Access.Pulse false) r.1)
+            (Some (place_in self.old.run (Access.Pulse false))) r.0) }
+        ensures form { IfSome result.1 (λ r. HasForm (Access.Pulse false) r.1) }
+        ensures value { IfSome result.1 (λ r. r.1.value ≡ 0) }
+        ensures looked { IfNone result.1 (HasLooked pass result.0) }
+        ensures unwoken { IfNone result.1 (waits_unwoken self.old.run result.0 ≡ true) }
+        ensures same { self.new.run ≡ self.old.run }
+    {
+        let slot = &mut self.slots[self.lines.len()];
+        wake_at(&self.book, &mut self.devices, slot, pass, engine)
+    }
+
+    /// Hands back the memory, with the record and the passes of its banks.
+    pub fn dissolve(self) -> EndMemory
+        ensures { IsMemoryOf self.run result }
+    {
+        let PlainBus {
+            book,
+            lines,
+            devices,
+            slots,
+            room,
+            origin: _,
+        } = self;
+        let passes = take_passes(slots, room);
+        EndMemory {
+            lines,
+            devices,
+            unsettled: Some(Unsettled { book, passes }),
+        }
+    }
+}
+
+// All banks of an image, in rising order.
+fn all_lines(
+    alloc: Global,
+    image: &Image,
+    settings: &Settings,
+    banks: u8,
+) -> Result<Vec<Lines>, AllocError>
+    requires lawful { is_lawful settings.now ≡ true }
+    requires fits { image_fits settings.now.ram image.now ≡ true }
+    requires banks { is_bank_count banks ≡ true }
+    ensures all { IfOk result (λ lines. vec_len lines ≡ banks) }
+    ensures each { IfOk result (λ lines. AreMade image.now settings.now banks lines.items) }
+{
+    let mut lines = Vec::new(alloc);
+    for bank in 0..banks {
+        lines.push(Lines::new(alloc, image, settings, banks, bank)?)?;
+    }
+    Ok(lines)
+}
+
+// Each bank gets its pass, and the devices as the last one.
+fn enrol_banks(
+    book: &AccessRecord,
+    mut founder: Founder,
+    mut slots: Vec<Option<BankPass>>,
+    all: u8,
+) -> (Founder, Vec<Option<BankPass>>)
+    requires book { (founder.id ≡ book.now.id) × (book.now.limits.banks ≡ all) }
+    requires none { founder.banks ≡ [] }
+    requires room { (vec_len slots ≡ 0) × (all ≤ vec_capacity slots) }
+    ensures founder { (result.0.id ≡ founder.id) × (result.0.harts ≡ founder.harts) }
+    ensures banks { result.0.banks ≡ numbers_below all }
+    ensures slots { result.1.items ≡ new_slots book.now all }
+{
+    for bank in 0..all {
+        let (next, pass) = book.enrol_bank(founder, bank);
+        founder = next;
+        slots.push_reserved(Some(pass));
+    }
+    (founder, slots)
+}
+
+// The passes of all slots, the last one first.
+fn take_passes(mut slots: Vec<Option<BankPass>>, mut room: Vec<BankPass>) -> Vec<BankPass>
+    requires held { AreHeld slots.items }
+    requires room { (vec_len room ≡ 0) × (vec_len slots ≤ vec_capacity room) }
+    ensures { result.items ≡ passes_down slots.items (vec_len slots) }
+{
+    while let Some(slot) = slots.pop() {
+        let Some(pass) = slot else { unreachable!() };
+        room.push_reserved(pass);
+    }
+    slots.destroy_empty();
+    room
+}
