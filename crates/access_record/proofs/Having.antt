@@ -1,10 +1,10 @@
--- Lists of things that each have a number and a log.
+-- Lists of things that each have a number and a log, and have seen so many events.
 use Rattle.std.proofs.Common.{◌≡◌, ◌≢◌, ℕ, ◌+◌, ◌<◌, ◌≤◌, ◌==◌, List, [], ◌∷◌, ◌++◌, map, length, refl, sym, ap, ◌∙◌, eq-eqb, ne_eqb, lt_of_not-le, arith}
 use Rattle.std.specs.Prelude.{if◌then◌else◌}
 use native.Mathlib.Decide.{ℕ_discrete}
 use Rattle.access_record.specs.declared.entry.LogEntry.{LogEntry}
 use Rattle.access_record.specs.Logs.{log_of, sum_below}
-use Rattle.access_record.specs.Rule.{one_if, count_of, HaveLogs}
+use Rattle.access_record.specs.Rule.{one_if, count_of, HaveLogs, HaveSeen}
 use Rattle.access_record.specs.Steps.{rest_of, first_of}
 use Rattle.access_record.proofs.Totals.{put, put-other, sum_below-put, sum_below-none, sum_below-most}
 
@@ -42,6 +42,20 @@ module _ {X : Type 0} (number : X → ℕ) (log : X → List LogEntry) where
           → logs k ≡ log_of number log (x ∷ xs) k
       by_test (yes is) rest = ap logs (sym is) ∙ (sym a.0 ∙ ap (λ b. if b then log x else log_of number log xs k) (sym (eq-eqb (number x) k is)))
       by_test (no ne) rest = rest ne ∙ ap (λ b. if b then log x else log_of number log xs k) (sym (ne_eqb (number x) k ne))
+
+module _ {X : Type 0} (seen : X → ℕ) where
+  pub have_seen-append : (n : ℕ) (xs ys : List X) → HaveSeen seen n xs → HaveSeen seen n ys → HaveSeen seen n (xs ++ ys)
+  have_seen-append n [] ys a b = b
+  have_seen-append n (x ∷ xs) ys a b = (a.0, have_seen-append n xs ys a.1 b)
+
+  pub have_seen-first : (n : ℕ) (xs : List X) → HaveSeen seen n xs
+      → HaveSeen seen n (rest_of xs) × HaveSeen seen n (first_of xs)
+  have_seen-first n [] a = (tt, tt)
+  have_seen-first n (x ∷ xs) a = (a.1, (a.0, tt))
+
+  pub have_seen-wider : (n more : ℕ) (xs : List X) → n ≤ more → HaveSeen seen n xs → HaveSeen seen more xs
+  have_seen-wider n more [] le a = tt
+  have_seen-wider n more (x ∷ xs) le a = (let s = a.0 in omega arith, have_seen-wider n more xs le a.1)
 
 module _ {X : Type 0} (number : X → ℕ) where
   pub count_of-first : (k : ℕ) (xs : List X)

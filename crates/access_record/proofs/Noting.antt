@@ -1,4 +1,5 @@
 -- The steps on the record's word keep the rule: notes, looks, and learning the rule.
+use Rattle.std.proofs.Math.Nat.{max-le}
 use Rattle.std.proofs.Common.{◌≡◌, ◌≢◌, ℕ, suc, ◌+◌, ◌*◌, ◌%◌, ◌^◌, ◌<◌, ◌≤◌, lt_of_not-le, true, false, List, [], ◌∷◌, ◌++◌, length, set, sym, refl, ap, ◌∙◌, subst, arith, None, Some}
 use mathlib.Core.Option.{some}
 use lib.ListN.{get_elem?}
@@ -11,10 +12,10 @@ use Rattle.access_record.specs.declared.view.HartView.{HartView}
 use Rattle.access_record.specs.declared.view.BankView.{BankView}
 use Rattle.access_record.specs.declared.view.View.{View}
 use Rattle.access_record.specs.Logs.{is_access, Ascends, on_bank, of_hart, IsRecord, log_entry}
-use Rattle.access_record.specs.Rule.{total, occurrences, hart_number, hart_log, bank_number, bank_log, hart_in, bank_in, founder_in, AllLogs, Fits, IsEnrolled, IsConsistent, MeetsRule, view_of}
-use Rattle.access_record.specs.Steps.{with_entry, with_look, AgreesAt, Enters, Looks}
+use Rattle.access_record.specs.Rule.{total, occurrences, hart_number, hart_log, hart_seen, bank_number, bank_log, bank_seen, hart_in, bank_in, founder_in, AllLogs, Fits, IsEnrolled, IsConsistent, MeetsRule, view_of}
+use Rattle.access_record.specs.Steps.{with_entry, both_seen, with_look, AgreesAt, Enters, Looks}
 use Rattle.access_record.proofs.Totals.{total-set, total-one, total-two, all-set, put, put-same, put-all, sum_below-most}
-use Rattle.access_record.proofs.Having.{have_logs-put, one_if-same}
+use Rattle.access_record.proofs.Having.{have_logs-put, have_seen-wider, one_if-same}
 use Rattle.access_record.proofs.Logging.{record-access, record-own}
 
 -- what is known where a view has the log of number k
@@ -77,15 +78,19 @@ consistent-access limits n views all id entry p d kept at room access =
       now,
       record {
         logs = record-access limits n all.harts all.banks h d.bank e kept.logs hh.below hb.below (subst (λ (l : List LogEntry). length l < limits.room) f.harts.0 room) refl refl refl access;
-        fits = all-set (Fits now) views id w
+        fits = all-set (Fits (suc n) now) views id w
             (record {
               harts = (ap (λ (l : List LogEntry). l ++ e ∷ []) f.harts.0 ∙ sym (put-same all.harts h to), tt);
               banks = (ap (λ (l : List LogEntry). l ++ e ∷ []) f.banks.0 ∙ sym (put-same all.banks d.bank onto), tt);
+              harts_seen = (omega arith, tt);
+              banks_seen = (omega arith, tt);
               enrolment = λ x. absurd cc;
             })
             (λ j u ne there. let g = kept.fits j u there in record {
               harts = have_logs-put hart_number hart_log all.harts h to u.harts (hh.none_else j u ne there) g.harts;
               banks = have_logs-put bank_number bank_log all.banks d.bank onto u.banks (hb.none_else j u ne there) g.banks;
+              harts_seen = have_seen-wider hart_seen n (suc n) u.harts (omega arith) g.harts_seen;
+              banks_seen = have_seen-wider bank_seen n (suc n) u.banks (omega arith) g.banks_seen;
               enrolment = g.enrolment;
             });
         harts_in_one = λ g. (let t = total-set (hart_in g) views id v w at in let c = kept.harts_in_one g in omega arith);
@@ -113,9 +118,21 @@ consistent-own limits n views all id entry p kept at room own =
       now,
       record {
         logs = record-own limits n all.harts all.banks h e kept.logs hh.below (subst (λ (l : List LogEntry). length l < limits.room) f.harts.0 room) refl refl refl own;
-        fits = all-set (Fits now) views id w
-            (record { harts = (ap (λ (l : List LogEntry). l ++ e ∷ []) f.harts.0 ∙ sym (put-same all.harts h to), tt); banks = tt; enrolment = λ x. absurd cc })
-            (λ j u ne there. let g = kept.fits j u there in record { harts = have_logs-put hart_number hart_log all.harts h to u.harts (hh.none_else j u ne there) g.harts; banks = g.banks; enrolment = g.enrolment });
+        fits = all-set (Fits (suc n) now) views id w
+            (record {
+              harts = (ap (λ (l : List LogEntry). l ++ e ∷ []) f.harts.0 ∙ sym (put-same all.harts h to), tt);
+              banks = tt;
+              harts_seen = (omega arith, tt);
+              banks_seen = tt;
+              enrolment = λ x. absurd cc;
+            })
+            (λ j u ne there. let g = kept.fits j u there in record {
+              harts = have_logs-put hart_number hart_log all.harts h to u.harts (hh.none_else j u ne there) g.harts;
+              banks = g.banks;
+              harts_seen = have_seen-wider hart_seen n (suc n) u.harts (omega arith) g.harts_seen;
+              banks_seen = have_seen-wider bank_seen n (suc n) u.banks (omega arith) g.banks_seen;
+              enrolment = g.enrolment;
+            });
         harts_in_one = λ g. (let t = total-set (hart_in g) views id v w at in let c = kept.harts_in_one g in omega arith);
         banks_in_one = λ g. (let t = total-set (bank_in g) views id v w at in let c = kept.banks_in_one g in omega arith);
         one_founder = (let t = total-set founder_in views id v w at in let c = kept.one_founder in omega arith);
@@ -131,9 +148,12 @@ consistent-look : (limits : Limits) (n : ℕ) (views : List View) (all : AllLogs
 consistent-look limits n views all id p d kept at =
     let v : View = view_of (p ∷ []) (d ∷ []) in
     let w : View = with_look (p ∷ []) (d ∷ []) in
-    let f = kept.fits id v at in record {
+    let f = kept.fits id v at in
+    let most : both_seen p d ≤ n = max-le f.harts_seen.0 f.banks_seen.0 in record {
       logs = kept.logs;
-      fits = all-set (Fits all) views id w (record { harts = f.harts; banks = f.banks; enrolment = λ x. absurd cc }) (λ j u ne there. kept.fits j u there);
+      fits = all-set (Fits n all) views id w
+          (record { harts = f.harts; banks = f.banks; harts_seen = (most, tt); banks_seen = (most, tt); enrolment = λ x. absurd cc })
+          (λ j u ne there. kept.fits j u there);
       harts_in_one = λ g. (let t = total-set (hart_in g) views id v w at in let c = kept.harts_in_one g in omega arith);
       banks_in_one = λ g. (let t = total-set (bank_in g) views id v w at in let c = kept.banks_in_one g in omega arith);
       one_founder = (let t = total-set founder_in views id v w at in let c = kept.one_founder in omega arith);
@@ -150,11 +170,15 @@ agrees-both limits n views all id p d kept at =
       subst (Ascends 0 n) (sym f.harts.0) (kept.logs.hart_numbers p.hart.0),
       subst (Ascends 0 n) (sym f.banks.0) (kept.logs.bank_numbers d.bank),
       ap (on_bank d.bank) f.harts.0 ∙ (kept.logs.matched p.hart.0 d.bank ∙ ap (of_hart p.hart.0) (sym f.banks.0)),
+      f.harts_seen.0,
+      f.banks_seen.0,
     )
 
 agrees-own : (limits : Limits) (n : ℕ) (views : List View) (all : AllLogs) (id : ℕ) (p : HartView)
     → IsConsistent limits n views all → get_elem? views id ≡ some (view_of (p ∷ []) []) → AgreesAt n (p ∷ []) []
-agrees-own limits n views all id p kept at = subst (Ascends 0 n) (sym (kept.fits id (view_of (p ∷ []) []) at).harts.0) (kept.logs.hart_numbers p.hart.0)
+agrees-own limits n views all id p kept at =
+    let f = kept.fits id (view_of (p ∷ []) []) at in
+    (subst (Ascends 0 n) (sym f.harts.0) (kept.logs.hart_numbers p.hart.0), f.harts_seen.0)
 
 -- the number of events, and so the next number, doesn't wrap
 counts : (limits : Limits) (n : ℕ) (harts banks : ℕ → List LogEntry) → IsRecord limits n harts banks

@@ -1,4 +1,5 @@
 -- The steps that change no log keep the rule: the beginning, joining two seats, splitting one, and enrolling.
+use Rattle.std.proofs.Math.Nat.{max-le}
 use Rattle.std.proofs.Common.{◌≡◌, ◌≢◌, ℕ, zero, suc, ◌+◌, ◌<◌, ◌≤◌, ◌==◌, true, false, List, [], ◌∷◌, ◌++◌, set, sym, refl, ap, ◌∙◌, subst, ⊎_elim, eq-eqb, arith}
 use mathlib.Core.Option.{some, some-ne-none, some-injective}
 use native.Mathlib.Decide.{ℕ_discrete}
@@ -12,10 +13,10 @@ use Rattle.access_record.specs.declared.view.HartView.{HartView}
 use Rattle.access_record.specs.declared.view.BankView.{BankView}
 use Rattle.access_record.specs.declared.view.View.{View}
 use Rattle.access_record.specs.Logs.{on_bank, of_hart}
-use Rattle.access_record.specs.Rule.{total, one_if, occurrences, hart_number, hart_log, bank_number, bank_log, hart_in, bank_in, founder_in, AllLogs, Fits, IsEnrolled, IsConsistent, MeetsRule, founder_alone, empty_view}
-use Rattle.access_record.specs.Steps.{union, without_banks, banks_alone, with_hart, new_hart, with_bank, new_bank, without_first_hart, first_hart_alone, without_first_bank, first_bank_alone}
+use Rattle.access_record.specs.Rule.{total, one_if, occurrences, hart_number, hart_log, hart_seen, bank_number, bank_log, bank_seen, hart_in, bank_in, founder_in, count_of, HaveLogs, HaveSeen, AllLogs, Fits, IsEnrolled, IsConsistent, MeetsRule, founder_alone, empty_view}
+use Rattle.access_record.specs.Steps.{union, without_banks, banks_alone, both_seen, harts_shared, banks_shared, without_banks_shared, banks_alone_shared, with_hart, new_hart, with_bank, new_bank, without_first_hart, first_hart_alone, without_first_bank, first_bank_alone}
 use Rattle.access_record.proofs.Totals.{total-append, total-two, total-joined, total-parted, total-cut, all-set, sum_below-none}
-use Rattle.access_record.proofs.Having.{have_logs-append, have_logs-first, count_of-first, one_if-other}
+use Rattle.access_record.proofs.Having.{have_logs-append, have_logs-first, have_seen-append, have_seen-first, count_of-first, one_if-other}
 
 abbrev no_logs : AllLogs
 no_logs = record { harts = λ h. []; banks = λ b. []; enrolled_harts = []; enrolled_banks = [] }
@@ -48,8 +49,8 @@ consistent-begin limits = record {
   banks = enrolled-none limits.banks;
 }
   where
-    only : (seat : ℕ) (v : View) → get_elem? (founder_alone ∷ []) seat ≡ some v → Fits no_logs v
-    only zero v e = subst (Fits no_logs) (some-injective founder_alone v e) (record { harts = tt; banks = tt; enrolment = λ f. (refl, refl) })
+    only : (seat : ℕ) (v : View) → get_elem? (founder_alone ∷ []) seat ≡ some v → Fits 0 no_logs v
+    only zero v e = subst (Fits 0 no_logs) (some-injective founder_alone v e) (record { harts = tt; banks = tt; harts_seen = tt; banks_seen = tt; enrolment = λ f. (refl, refl) })
     only (suc seat) v e = absurd (some-ne-none v (sym e))
 
 pub meets_rule-begin : (limits : Limits) → MeetsRule limits (record { words = 0 ∷ []; homes = []; views = founder_alone ∷ [] })
@@ -64,18 +65,20 @@ joins limits id v other w plain s k at ne there =
     let was : get_elem? s.views other ≡ some w = ⊎_elim (λ (x : (other ≡ id) × (both ≡ w)). absurd (ne x.0)) (λ (x : (other ≢ id) × (get_elem? s.views other ≡ some w)). x.1) (at_set s.views id other both w there) in
     let fv = kept.fits id v at in
     let fw = kept.fits other w was in
-    let both_fits : Fits all both = record {
+    let both_fits : Fits k.0 all both = record {
       harts = have_logs-append hart_number hart_log all.harts w.harts v.harts fw.harts fv.harts;
       banks = have_logs-append bank_number bank_log all.banks w.banks v.banks fw.banks fv.banks;
+      harts_seen = have_seen-append hart_seen k.0 w.harts v.harts fw.harts_seen fv.harts_seen;
+      banks_seen = have_seen-append bank_seen k.0 w.banks v.banks fw.banks_seen fv.banks_seen;
       enrolment = fv.enrolment;
     } in
-    let none_fits : Fits all empty_view = record { harts = tt; banks = tt; enrolment = λ f. absurd cc } in (
+    let none_fits : Fits k.0 all empty_view = record { harts = tt; banks = tt; harts_seen = tt; banks_seen = tt; enrolment = λ f. absurd cc } in (
       k.0,
       all,
       k.2,
       record {
         logs = kept.logs;
-        fits = all-set (Fits all) (set s.views id both) other empty_view none_fits (λ j u apart e. all-set (Fits all) s.views id both both_fits (λ i y other e'. kept.fits i y e') j u e);
+        fits = all-set (Fits k.0 all) (set s.views id both) other empty_view none_fits (λ j u apart e. all-set (Fits k.0 all) s.views id both both_fits (λ i y other e'. kept.fits i y e') j u e);
         harts_in_one = λ h. total-joined (hart_in h) s.views id other v w both empty_view at there (total-append (λ (p : HartView). one_if (p.hart.0 == h)) w.harts v.harts) refl ∙ kept.harts_in_one h;
         banks_in_one = λ h. total-joined (bank_in h) s.views id other v w both empty_view at there (total-append (λ (p : BankView). one_if (p.bank == h)) w.banks v.banks) refl ∙ kept.banks_in_one h;
         one_founder = total-joined founder_in s.views id other v w both empty_view at there (let z : one_if w.founder ≡ 0 = ap one_if plain in omega arith) refl ∙ kept.one_founder;
@@ -92,7 +95,7 @@ all-parted F views id left right l r others j u e = ⊎_elim (λ (x : get_elem? 
 
 -- a split that shares out the logs of a view: each part fits, and together they have each log as often as the view
 splits : (limits : Limits) (id : ℕ) (v left right : View)
-    → ((all : AllLogs) → Fits all v → Fits all left × Fits all right)
+    → ((n : ℕ) (all : AllLogs) → Fits n all v → Fits n all left × Fits n all right)
     → ((h : ℕ) → hart_in h left + hart_in h right ≡ hart_in h v)
     → ((h : ℕ) → bank_in h left + bank_in h right ≡ bank_in h v)
     → founder_in left + founder_in right ≡ founder_in v
@@ -100,13 +103,13 @@ splits : (limits : Limits) (id : ℕ) (v left right : View)
 splits limits id v left right fit harts banks founder s k at =
     let all = k.1 in
     let kept = k.3 in
-    let f = fit all (kept.fits id v at) in (
+    let f = fit k.0 all (kept.fits id v at) in (
       k.0,
       all,
       k.2,
       record {
         logs = kept.logs;
-        fits = all-parted (Fits all) s.views id left right f.0 f.1 (λ j u ne e. kept.fits j u e);
+        fits = all-parted (Fits k.0 all) s.views id left right f.0 f.1 (λ j u ne e. kept.fits j u e);
         harts_in_one = λ h. total-cut (hart_in h) s.views id v left right at (harts h) ∙ kept.harts_in_one h;
         banks_in_one = λ h. total-cut (bank_in h) s.views id v left right at (banks h) ∙ kept.banks_in_one h;
         one_founder = total-cut founder_in s.views id v left right at founder ∙ kept.one_founder;
@@ -119,16 +122,57 @@ splits limits id v left right fit harts banks founder s k at =
 pub splits_banks : (limits : Limits) (id : ℕ) (v : View)
     → Splits (MeetsRule limits) id v (without_banks v) (banks_alone v)
 splits_banks limits id v = splits limits id v (without_banks v) (banks_alone v)
-    (λ all f. (record { harts = f.harts; banks = tt; enrolment = f.enrolment }, record { harts = tt; banks = f.banks; enrolment = λ x. absurd cc }))
+    (λ n all f. (
+      record { harts = f.harts; banks = tt; harts_seen = f.harts_seen; banks_seen = tt; enrolment = f.enrolment },
+      record { harts = tt; banks = f.banks; harts_seen = tt; banks_seen = f.banks_seen; enrolment = λ x. absurd cc },
+    ))
     (λ h. omega arith)
     (λ h. omega arith)
+    (omega arith)
+
+-- the first hart and the first bank share what they have seen: each has its log still, and has seen no more than is
+-- counted
+shares : (n : ℕ) (logs bank_logs : ℕ → List LogEntry) (ps : List HartView) (ds : List BankView)
+    → HaveLogs hart_number hart_log logs ps → HaveLogs bank_number bank_log bank_logs ds → HaveSeen hart_seen n ps
+    → HaveSeen bank_seen n ds
+    → (HaveLogs hart_number hart_log logs (harts_shared ps ds) × HaveSeen hart_seen n (harts_shared ps ds))
+    × (HaveLogs bank_number bank_log bank_logs (banks_shared ps ds) × HaveSeen bank_seen n (banks_shared ps ds))
+shares n logs bank_logs [] [] h b s t = ((tt, tt), (tt, tt))
+shares n logs bank_logs [] (d ∷ ds) h b s t = ((tt, tt), (b, t))
+shares n logs bank_logs (p ∷ ps) [] h b s t = ((h, s), (tt, tt))
+shares n logs bank_logs (p ∷ ps) (d ∷ ds) h b s t = let most : both_seen p d ≤ n = max-le s.0 t.0 in ((h, (most, s.1)), (b, (most, t.1)))
+
+-- and the same harts and banks are there
+count_of-shared : (k : ℕ) (ps : List HartView) (ds : List BankView)
+    → (count_of hart_number k (harts_shared ps ds) ≡ count_of hart_number k ps)
+    × (count_of bank_number k (banks_shared ps ds) ≡ count_of bank_number k ds)
+count_of-shared k [] [] = (refl, refl)
+count_of-shared k [] (d ∷ ds) = (refl, refl)
+count_of-shared k (p ∷ ps) [] = (refl, refl)
+count_of-shared k (p ∷ ps) (d ∷ ds) = (refl, refl)
+
+pub splits_banks_shared : (limits : Limits) (id : ℕ) (v : View)
+    → Splits (MeetsRule limits) id v (without_banks_shared v) (banks_alone_shared v)
+splits_banks_shared limits id v = splits limits id v (without_banks_shared v) (banks_alone_shared v)
+    (λ n all f.
+    let s = shares n all.harts all.banks v.harts v.banks f.harts f.banks f.harts_seen f.banks_seen in (
+      record { harts = s.0.0; banks = tt; harts_seen = s.0.1; banks_seen = tt; enrolment = f.enrolment },
+      record { harts = tt; banks = s.1.0; harts_seen = tt; banks_seen = s.1.1; enrolment = λ x. absurd cc },
+    ))
+    (λ h. let c = (count_of-shared h v.harts v.banks).0 in omega arith)
+    (λ h. let c = (count_of-shared h v.harts v.banks).1 in omega arith)
     (omega arith)
 
 -- the first hart's log goes to a new seat
 pub splits_first_hart : (limits : Limits) (id : ℕ) (v : View)
     → Splits (MeetsRule limits) id v (without_first_hart v) (first_hart_alone v)
 splits_first_hart limits id v = splits limits id v (without_first_hart v) (first_hart_alone v)
-    (λ all f. let h = have_logs-first hart_number hart_log all.harts v.harts f.harts in (record { harts = h.0; banks = f.banks; enrolment = f.enrolment }, record { harts = h.1; banks = tt; enrolment = λ x. absurd cc }))
+    (λ n all f.
+    let h = have_logs-first hart_number hart_log all.harts v.harts f.harts in
+    let s = have_seen-first hart_seen n v.harts f.harts_seen in (
+      record { harts = h.0; banks = f.banks; harts_seen = s.0; banks_seen = f.banks_seen; enrolment = f.enrolment },
+      record { harts = h.1; banks = tt; harts_seen = s.1; banks_seen = tt; enrolment = λ x. absurd cc },
+    ))
     (λ h. count_of-first hart_number h v.harts)
     (λ h. omega arith)
     (omega arith)
@@ -137,7 +181,12 @@ splits_first_hart limits id v = splits limits id v (without_first_hart v) (first
 pub splits_first_bank : (limits : Limits) (id : ℕ) (v : View)
     → Splits (MeetsRule limits) id v (without_first_bank v) (first_bank_alone v)
 splits_first_bank limits id v = splits limits id v (without_first_bank v) (first_bank_alone v)
-    (λ all f. let h = have_logs-first bank_number bank_log all.banks v.banks f.banks in (record { harts = f.harts; banks = h.0; enrolment = f.enrolment }, record { harts = tt; banks = h.1; enrolment = λ x. absurd cc }))
+    (λ n all f.
+    let h = have_logs-first bank_number bank_log all.banks v.banks f.banks in
+    let s = have_seen-first bank_seen n v.banks f.banks_seen in (
+      record { harts = f.harts; banks = h.0; harts_seen = f.harts_seen; banks_seen = s.0; enrolment = f.enrolment },
+      record { harts = tt; banks = h.1; harts_seen = tt; banks_seen = s.1; enrolment = λ x. absurd cc },
+    ))
     (λ h. omega arith)
     (λ h. count_of-first bank_number h v.banks)
     (omega arith)
@@ -175,10 +224,10 @@ enrols_hart limits id v hart founder free below s k at =
       k.2,
       record {
         logs = kept.logs;
-        fits = all-parted (Fits now) s.views id (with_hart hart v) (new_hart hart)
-            (record { harts = f.harts; banks = f.banks; enrolment = λ x. (ap (λ (l : List ℕ). hart.0 ∷ l) listed.0, listed.1) })
-            (record { harts = (sym (kept.harts.others hart.0 free'), tt); banks = tt; enrolment = λ x. absurd cc })
-            (λ j u ne e. let g = kept.fits j u e in record { harts = g.harts; banks = g.banks; enrolment = λ too. absurd (founder-alone s.views id v kept.one_founder founder at j u ne e too) });
+        fits = all-parted (Fits k.0 now) s.views id (with_hart hart v) (new_hart hart)
+            (record { harts = f.harts; banks = f.banks; harts_seen = f.harts_seen; banks_seen = f.banks_seen; enrolment = λ x. (ap (λ (l : List ℕ). hart.0 ∷ l) listed.0, listed.1) })
+            (record { harts = (sym (kept.harts.others hart.0 free'), tt); banks = tt; harts_seen = (omega arith, tt); banks_seen = tt; enrolment = λ x. absurd cc })
+            (λ j u ne e. let g = kept.fits j u e in record { harts = g.harts; banks = g.banks; harts_seen = g.harts_seen; banks_seen = g.banks_seen; enrolment = λ too. absurd (founder-alone s.views id v kept.one_founder founder at j u ne e too) });
         harts_in_one = λ h. total-parted (hart_in h) s.views id v (with_hart hart v) (new_hart hart) (one_if (hart.0 == h)) at (omega arith) ∙ ap (λ (m : ℕ). one_if (hart.0 == h) + m) (kept.harts_in_one h);
         banks_in_one = λ h. total-cut (bank_in h) s.views id v (with_hart hart v) (new_hart hart) at (omega arith) ∙ kept.banks_in_one h;
         one_founder = total-cut founder_in s.views id v (with_hart hart v) (new_hart hart) at (omega arith) ∙ kept.one_founder;
@@ -202,10 +251,10 @@ enrols_bank limits id v bank founder free below s k at =
       k.2,
       record {
         logs = kept.logs;
-        fits = all-parted (Fits now) s.views id (with_bank bank v) (new_bank bank)
-            (record { harts = f.harts; banks = f.banks; enrolment = λ x. (listed.0, ap (λ (l : List ℕ). bank ∷ l) listed.1) })
-            (record { harts = tt; banks = (sym (kept.banks.others bank free'), tt); enrolment = λ x. absurd cc })
-            (λ j u ne e. let g = kept.fits j u e in record { harts = g.harts; banks = g.banks; enrolment = λ too. absurd (founder-alone s.views id v kept.one_founder founder at j u ne e too) });
+        fits = all-parted (Fits k.0 now) s.views id (with_bank bank v) (new_bank bank)
+            (record { harts = f.harts; banks = f.banks; harts_seen = f.harts_seen; banks_seen = f.banks_seen; enrolment = λ x. (listed.0, ap (λ (l : List ℕ). bank ∷ l) listed.1) })
+            (record { harts = tt; banks = (sym (kept.banks.others bank free'), tt); harts_seen = tt; banks_seen = (omega arith, tt); enrolment = λ x. absurd cc })
+            (λ j u ne e. let g = kept.fits j u e in record { harts = g.harts; banks = g.banks; harts_seen = g.harts_seen; banks_seen = g.banks_seen; enrolment = λ too. absurd (founder-alone s.views id v kept.one_founder founder at j u ne e too) });
         harts_in_one = λ h. total-cut (hart_in h) s.views id v (with_bank bank v) (new_bank bank) at (omega arith) ∙ kept.harts_in_one h;
         banks_in_one = λ h. total-parted (bank_in h) s.views id v (with_bank bank v) (new_bank bank) (one_if (bank == h)) at (omega arith) ∙ ap (λ (m : ℕ). one_if (bank == h) + m) (kept.banks_in_one h);
         one_founder = total-cut founder_in s.views id v (with_bank bank v) (new_bank bank) at (omega arith) ∙ kept.one_founder;

@@ -1,7 +1,7 @@
 -- What a bus asks of a hart's pass, and what it does to it.
-use Rattle.std.specs.Prelude.{◌≡◌, ℕ, ◌-◌, ◌<◌, Bool, true, List, [], ◌∷◌, ◌++◌, map, length, Option, Some}
+use Rattle.std.specs.Prelude.{◌≡◌, ℕ, ◌+◌, ◌-◌, ◌<◌, ◌≤◌, Bool, true, List, [], ◌∷◌, ◌++◌, map, length, Option, None, Some}
 use Rattle.flex_base.specs.Setup.{Setup}
-use Rattle.flex_base.specs.Story.{Asks}
+use Rattle.flex_base.specs.StoryTree.{Asks}
 use Rattle.flex_base.specs.Unsplit.{Instruction}
 use Rattle.flex_base.specs.Devices.{hart_at, is_unwoken, is_transmit, devices, sent_bytes}
 use Rattle.flex_base.specs.Following.{wanted, Follows, instruction_of, is_waiting, last_engine}
@@ -86,6 +86,12 @@ pub record Extends (old new : PassOfHart) (entry : Entry) (bank : Option ℕ) (n
   pub hart : new.hart ≡ old.hart
   pub log : new.log ≡ old.log ++ log_entry entry old.hart bank number ∷ []
   pub above : Ascends 0 number old.log
+
+-- what a bus tells of the numbers before and after it gives one: a bus of one thread gives numbers that rise, and one
+-- that threads share says nothing of them
+abbrev pub InOrder : Option ℕ → ℕ → Option ℕ → Type 0
+InOrder None number after = after ≡ None
+InOrder (Some least) number after = (least ≤ number) × (after ≡ Some (number + 1))
 
 -- the pass of the same hart and record, with the same log, which has looked at the devices
 pub record HasLooked (old new : PassOfHart) : Type 0 where

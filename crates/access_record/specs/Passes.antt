@@ -16,20 +16,23 @@ pub record RecordIdentity : Type 0 where
   pub id : TableId
   pub limits : Limits
 
--- a hart's pass: its record and hart, the hart's log, how often it looked at the devices, and their log when it looked
--- last
+-- a hart's pass: its record and hart, the hart's log, how many events were counted at least when it last saw the count,
+-- how often it looked at the devices, and their log when it looked last
 pub record PassOfHart : Type 0 where
   pub id : TableId
   pub hart : HartId
   pub log : List LogEntry
+  pub seen : ℕ
   pub looks : ℕ
   pub looked : List LogEntry
 
--- a bank's pass: its record and bank, and the bank's log
+-- a bank's pass: its record and bank, the bank's log, and how many events were counted at least when it last saw the
+-- count
 pub record PassOfBank : Type 0 where
   pub id : TableId
   pub bank : ℕ
   pub log : List LogEntry
+  pub seen : ℕ
 
 -- the founder: its record, and who is enrolled
 pub record Enrolment : Type 0 where
@@ -38,21 +41,21 @@ pub record Enrolment : Type 0 where
   pub banks : List ℕ
 
 abbrev pub pass_of : TableId → HartView → PassOfHart
-pass_of id p = record { id = id; hart = p.hart; log = p.log; looks = p.looks; looked = p.looked }
+pass_of id p = record { id = id; hart = p.hart; log = p.log; seen = p.seen; looks = p.looks; looked = p.looked }
 
 abbrev pub bank_pass_of : TableId → BankView → PassOfBank
-bank_pass_of id p = record { id = id; bank = p.bank; log = p.log }
+bank_pass_of id p = record { id = id; bank = p.bank; log = p.log; seen = p.seen }
 
 abbrev pub enrolment_in : TableId → View → Enrolment
 enrolment_in id v = record { id = id; harts = v.enrolled_harts; banks = v.enrolled_banks }
 
 -- the first log of a view, or that of a hart without one
 abbrev pub first_hart : HartId → List HartView → HartView
-first_hart hart [] = record { hart = hart; log = []; looks = 0; looked = [] }
+first_hart hart [] = record { hart = hart; log = []; seen = 0; looks = 0; looked = [] }
 first_hart hart (p ∷ ps) = p
 
 abbrev pub first_bank : ℕ → List BankView → BankView
-first_bank bank [] = record { bank = bank; log = [] }
+first_bank bank [] = record { bank = bank; log = []; seen = 0 }
 first_bank bank (p ∷ ps) = p
 
 -- a seat that has one log, that of this hart, and holds no slot
@@ -86,21 +89,21 @@ add_bank r bank = record { id = r.id; harts = r.harts; banks = bank ∷ r.banks 
 
 -- the pass of a hart that has just been enrolled, and that of a bank
 abbrev pub new_pass : TableId → HartId → PassOfHart
-new_pass id hart = record { id = id; hart = hart; log = []; looks = 0; looked = [] }
+new_pass id hart = record { id = id; hart = hart; log = []; seen = 0; looks = 0; looked = [] }
 
 abbrev pub new_bank_pass : TableId → ℕ → PassOfBank
-new_bank_pass id bank = record { id = id; bank = bank; log = [] }
+new_bank_pass id bank = record { id = id; bank = bank; log = []; seen = 0 }
 
--- one entry more
+-- one entry more; so the events up to its own were counted
 abbrev pub add_entry : PassOfHart → LogEntry → PassOfHart
-add_entry p e = record { id = p.id; hart = p.hart; log = p.log ++ e ∷ []; looks = p.looks; looked = p.looked }
+add_entry p e = record p { log = p.log ++ e ∷ []; seen = e.event.number + 1 }
 
 abbrev pub add_bank_entry : PassOfBank → LogEntry → PassOfBank
-add_bank_entry p e = record { id = p.id; bank = p.bank; log = p.log ++ e ∷ [] }
+add_bank_entry p e = record p { log = p.log ++ e ∷ []; seen = e.event.number + 1 }
 
 -- one look more, at this log of the devices
 abbrev pub add_look : PassOfHart → List LogEntry → PassOfHart
-add_look p log = record { id = p.id; hart = p.hart; log = p.log; looks = p.looks + 1; looked = log }
+add_look p log = record p { looks = p.looks + 1; looked = log }
 
 -- the logs of passes by the numbers of their harts or banks; empty where there is no pass
 abbrev pub logs_of : List PassOfHart → ℕ → List LogEntry
@@ -122,10 +125,10 @@ EachHasBankPass banks ps = (bank : ℕ) → occurrences bank banks ≤ count_of 
 
 -- what a seat has of a pass
 abbrev pub view_of_pass : PassOfHart → HartView
-view_of_pass p = record { hart = p.hart; log = p.log; looks = p.looks; looked = p.looked }
+view_of_pass p = record { hart = p.hart; log = p.log; seen = p.seen; looks = p.looks; looked = p.looked }
 
 abbrev pub view_of_bank_pass : PassOfBank → BankView
-view_of_bank_pass p = record { bank = p.bank; log = p.log }
+view_of_bank_pass p = record { bank = p.bank; log = p.log; seen = p.seen }
 
 -- the view with the logs of these passes too
 abbrev pub with_passes : List PassOfHart → View → View

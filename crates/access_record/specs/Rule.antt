@@ -32,11 +32,17 @@ hart_number p = p.hart.0
 abbrev pub hart_log : HartView → List LogEntry
 hart_log p = p.log
 
+abbrev pub hart_seen : HartView → ℕ
+hart_seen p = p.seen
+
 abbrev pub bank_number : BankView → ℕ
 bank_number p = p.bank
 
 abbrev pub bank_log : BankView → List LogEntry
 bank_log p = p.log
+
+abbrev pub bank_seen : BankView → ℕ
+bank_seen p = p.seen
 
 -- how often a view has a hart's log, and a bank's log
 abbrev pub hart_in : ℕ → View → ℕ
@@ -67,10 +73,18 @@ abbrev pub HaveLogs : {X : Type 0} → (X → ℕ) → (X → List LogEntry) →
 HaveLogs number log logs [] = Unit {0}
 HaveLogs number log logs (x ∷ xs) = (log x ≡ logs (number x)) × HaveLogs number log logs xs
 
--- a view has the logs of its harts and banks as they are, and the founder's lists who is enrolled
-pub record Fits (all : AllLogs) (v : View) : Type 0 where
+-- each of these has seen no more events than n
+abbrev pub HaveSeen : {X : Type 0} → (X → ℕ) → ℕ → List X → Type 0
+HaveSeen seen n [] = Unit {0}
+HaveSeen seen n (x ∷ xs) = (seen x ≤ n) × HaveSeen seen n xs
+
+-- a view has the logs of its harts and banks as they are, and the founder's lists who is enrolled. None of it has seen
+-- more events than the n that are counted
+pub record Fits (n : ℕ) (all : AllLogs) (v : View) : Type 0 where
   pub harts : HaveLogs hart_number hart_log all.harts v.harts
   pub banks : HaveLogs bank_number bank_log all.banks v.banks
+  pub harts_seen : HaveSeen hart_seen n v.harts
+  pub banks_seen : HaveSeen bank_seen n v.banks
   pub enrolment : v.founder ≡ true → (v.enrolled_harts ≡ all.enrolled_harts) × (v.enrolled_banks ≡ all.enrolled_banks)
 
 -- who is enrolled: nobody twice, only numbers below the limit, and what isn't enrolled has no entry
@@ -83,7 +97,7 @@ pub record IsEnrolled (most : ℕ) (enrolled : List ℕ) (logs : ℕ → List Lo
 -- one; banks likewise. Exactly one view is the founder's
 pub record IsConsistent (limits : Limits) (n : ℕ) (views : List View) (all : AllLogs) : Type 0 where
   pub logs : IsRecord limits n all.harts all.banks
-  pub fits : (seat : ℕ) (v : View) → get_elem? views seat ≡ some v → Fits all v
+  pub fits : (seat : ℕ) (v : View) → get_elem? views seat ≡ some v → Fits n all v
   pub harts_in_one : (hart : ℕ) → total (hart_in hart) views ≡ occurrences hart all.enrolled_harts
   pub banks_in_one : (bank : ℕ) → total (bank_in bank) views ≡ occurrences bank all.enrolled_banks
   pub one_founder : total founder_in views ≡ 1

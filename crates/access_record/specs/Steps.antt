@@ -1,5 +1,5 @@
 -- What the steps on a record's word do to the views of its seats.
-use Rattle.std.specs.Prelude.{◌≡◌, ℕ, ◌+◌, ◌*◌, ◌<◌, ◌≤◌, ◌^◌, true, List, [], ◌∷◌, ◌++◌, length, None, Some}
+use Rattle.std.specs.Prelude.{◌≡◌, ℕ, ◌+◌, ◌*◌, ◌<◌, ◌≤◌, ◌^◌, max, true, List, [], ◌∷◌, ◌++◌, length, None, Some}
 use Rattle.atomic_table.specs.Seated.{TableId}
 use Rattle.atomic_table.specs.Table.{Me, Step}
 use Rattle.flex_base.specs.declared.hart.HartId.{HartId}
@@ -27,13 +27,13 @@ abbrev pub with_hart : HartId → View → View
 with_hart hart v = record v { enrolled_harts = hart.0 ∷ v.enrolled_harts }
 
 abbrev pub new_hart : HartId → View
-new_hart hart = view_of (record { hart = hart; log = []; looks = 0; looked = [] } ∷ []) []
+new_hart hart = view_of (record { hart = hart; log = []; seen = 0; looks = 0; looked = [] } ∷ []) []
 
 abbrev pub with_bank : ℕ → View → View
 with_bank bank v = record v { enrolled_banks = bank ∷ v.enrolled_banks }
 
 abbrev pub new_bank : ℕ → View
-new_bank bank = view_of [] (record { bank = bank; log = [] } ∷ [])
+new_bank bank = view_of [] (record { bank = bank; log = []; seen = 0 } ∷ [])
 
 -- one seat has the logs of both
 abbrev pub union : View → View → View
@@ -67,11 +67,12 @@ without_first_bank v = record v { banks = rest_of v.banks }
 abbrev pub first_bank_alone : View → View
 first_bank_alone v = view_of [] (first_of v.banks)
 
+-- one entry more; so the events up to its own were counted
 abbrev pub hart_with_entry : HartView → LogEntry → HartView
-hart_with_entry p e = record p { log = p.log ++ e ∷ [] }
+hart_with_entry p e = record p { log = p.log ++ e ∷ []; seen = e.event.number + 1 }
 
 abbrev pub bank_with_entry : BankView → LogEntry → BankView
-bank_with_entry p e = record p { log = p.log ++ e ∷ [] }
+bank_with_entry p e = record p { log = p.log ++ e ∷ []; seen = e.event.number + 1 }
 
 -- an entry of the first hart of a view, which names the first bank or none
 abbrev pub with_entry : Entry → ℕ → List HartView → List BankView → View
@@ -81,17 +82,44 @@ with_entry entry number (p ∷ ps) (d ∷ ds) = view_of
     (hart_with_entry p (log_entry entry p.hart (Some d.bank) number) ∷ ps)
     (bank_with_entry d (log_entry entry p.hart (Some d.bank) number) ∷ ds)
 
--- the first hart looked at the first bank's log
+-- the greater of what the two have seen
+abbrev pub both_seen : HartView → BankView → ℕ
+both_seen p d = max p.seen d.seen
+
+-- the first hart looked at the first bank's log, and each of the two has seen what the other has
 abbrev pub with_look : List HartView → List BankView → View
 with_look [] banks = view_of [] banks
 with_look (p ∷ ps) [] = view_of (p ∷ ps) []
-with_look (p ∷ ps) (d ∷ ds) = view_of (record p { looks = p.looks + 1; looked = d.log } ∷ ps) (d ∷ ds)
+with_look (p ∷ ps) (d ∷ ds) = view_of
+    (record p { seen = both_seen p d; looks = p.looks + 1; looked = d.log } ∷ ps)
+    (record d { seen = both_seen p d } ∷ ds)
 
--- what the rule tells of the first hart's log and the first bank's when n events are counted
+-- the first hart has seen what the first bank has
+abbrev pub harts_shared : List HartView → List BankView → List HartView
+harts_shared [] banks = []
+harts_shared (p ∷ ps) [] = p ∷ ps
+harts_shared (p ∷ ps) (d ∷ ds) = record p { seen = both_seen p d } ∷ ps
+
+-- the first bank has seen what the first hart has
+abbrev pub banks_shared : List HartView → List BankView → List BankView
+banks_shared harts [] = []
+banks_shared [] (d ∷ ds) = d ∷ ds
+banks_shared (p ∷ ps) (d ∷ ds) = record d { seen = both_seen p d } ∷ ds
+
+-- a seat without its banks' logs, and a new seat with them, where the first hart and the first bank have shared what
+-- they have seen
+abbrev pub without_banks_shared : View → View
+without_banks_shared v = record v { harts = harts_shared v.harts v.banks; banks = [] }
+
+abbrev pub banks_alone_shared : View → View
+banks_alone_shared v = view_of [] (banks_shared v.harts v.banks)
+
+-- what the rule tells of the first hart and the first bank when n events are counted
 abbrev pub AgreesAt : ℕ → List HartView → List BankView → Type 0
 AgreesAt n [] banks = Unit {0}
-AgreesAt n (p ∷ ps) [] = Ascends 0 n p.log
+AgreesAt n (p ∷ ps) [] = Ascends 0 n p.log × (p.seen ≤ n)
 AgreesAt n (p ∷ ps) (d ∷ ds) = Ascends 0 n p.log × Ascends 0 n d.log × (on_bank d.bank p.log ≡ of_hart p.hart.0 d.log)
+    × (p.seen ≤ n) × (d.seen ≤ n)
 
 -- the number n is drawn for this entry
 abbrev pub Enters : Entry → Step ℕ → Me ℕ View → ℕ → Me ℕ View → Type 0

@@ -1,7 +1,7 @@
 ghost use Rattle.std.specs.Prelude.{◌≡◌, true, false, None, Some, IfNone, IfSome};
 ghost use Rattle.flex_base.specs.Forms.{HasForm, IsPlaced};
 ghost use Rattle.access_record.specs.Logs.{is_access};
-ghost use Rattle.access_record.specs.Buses.{place_in, access_entry, IsGiven, Wants, waits, engine_of, HasByte, Extends, HasLooked, waits_unwoken};
+ghost use Rattle.access_record.specs.Buses.{place_in, access_entry, IsGiven, Wants, waits, engine_of, HasByte, Extends, InOrder, HasLooked, waits_unwoken};
 
 use crate::entry::Entry;
 use crate::pass::Pass;
@@ -13,10 +13,15 @@ use flex_base::{Access, Engine, Reply};
 /// one entry more. The number that it answers is that of the entry, and is above all in the log. No
 /// call refuses or takes memory. A bus whose memory lies under locks may wait.
 pub trait Bus {
+    ghost use Rattle.std.specs.Prelude.{ℕ, Option};
     ghost use Rattle.access_record.specs.Buses.{Run};
 
     /// The record, the image and settings, and the console input that the bus is of.
     ghost run: { Self → Run };
+
+    /// The numbers of a bus of one thread rise: each that it will give is at least this. A bus that
+    /// threads share has none.
+    ghost order: { Self → Option ℕ };
 
     /// Makes the access that the hart asks, and answers its number and the reply, which has the
     /// access's form.
@@ -30,6 +35,7 @@ pub trait Bus {
         requires awake { waits pass ≡ false }
         requires console { HasByte (run self.old) pass acc }
         ensures noted { Extends pass result.0 (access_entry engine acc result.2) (Some (place_in (run self.old) acc)) result.1 }
+        ensures order { InOrder (order self.old) result.1 (order self.new) }
         ensures form { HasForm acc result.2 }
         ensures same { run self.new ≡ run self.old };
 
@@ -45,10 +51,12 @@ pub trait Bus {
         requires engine { engine_of pass ≡ Some engine }
         ensures woken { IfSome result.1 (λ r. Extends pass result.0 (access_entry engine (Access.Pulse false) r.1)
             (Some (place_in (run self.old) (Access.Pulse false))) r.0) }
+        ensures order { IfSome result.1 (λ r. InOrder (order self.old) r.0 (order self.new)) }
         ensures form { IfSome result.1 (λ r. HasForm (Access.Pulse false) r.1) }
         ensures value { IfSome result.1 (λ r. r.1.value ≡ 0) }
         ensures looked { IfNone result.1 (HasLooked pass result.0) }
         ensures unwoken { IfNone result.1 (waits_unwoken (run self.old) result.0 ≡ true) }
+        ensures stays { IfNone result.1 (order self.new ≡ order self.old) }
         ensures same { run self.new ≡ run self.old };
 
     /// Notes an end or a handover of a hart, and answers its number.
@@ -56,5 +64,6 @@ pub trait Bus {
         requires given { IsGiven (run self.old) pass }
         requires own { is_access entry.what ≡ false }
         ensures noted { Extends pass result.0 entry None result.1 }
+        ensures order { InOrder (order self.old) result.1 (order self.new) }
         ensures same { run self.new ≡ run self.old };
 }

@@ -4,8 +4,9 @@ use crate::view::RecordSeat;
 use flex_base::HartId;
 use std::marker::Model;
 
-/// The right to note a hart's events. Contracts see the hart's log, which takes no bytes. It can't be
-/// copied and must be spent.
+/// The right to note a hart's events. Contracts see the hart's log, and a number of events that was
+/// counted at least when the pass last saw the count; neither takes bytes. It can't be copied and must
+/// be spent.
 pub struct Pass {
     pub(crate) hart: HartId,
     pub(crate) seat: RecordSeat,
@@ -30,8 +31,9 @@ impl Pass {
     }
 }
 
-/// The right to note accesses of a bank. Contracts see the bank's log, which takes no bytes. It
-/// can't be copied and must be spent.
+/// The right to note accesses of a bank. Contracts see the bank's log, and a number of events that was
+/// counted at least when the pass last saw the count; neither takes bytes. It can't be copied and must
+/// be spent.
 pub struct BankPass {
     pub(crate) bank: u8,
     pub(crate) seat: RecordSeat,

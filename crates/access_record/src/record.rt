@@ -1,4 +1,4 @@
-ghost use Rattle.std.specs.Prelude.{◌≡◌, ℕ, ◌+◌, ◌*◌, ◌<◌, ◌≤◌, ◌^◌, [], length, IfOk, None, Some, true, false};
+ghost use Rattle.std.specs.Prelude.{◌≡◌, ℕ, ◌+◌, ◌*◌, ◌<◌, ◌≤◌, ◌^◌, max, [], length, IfOk, None, Some, true, false};
 ghost use Rattle.std.specs.List.{All};
 ghost use Rattle.access_record.specs.Logs.{is_access, on_bank, of_hart, Ascends, log_entry};
 ghost use Rattle.access_record.specs.Rule.{occurrences};
@@ -89,13 +89,14 @@ impl AccessRecord {
     }
 
     /// Notes an end or a handover of a hart, and answers its number. The number is above all in the
-    /// hart's log.
+    /// hart's log, and at least what the pass has seen.
     pub fn note_own(&self, pass: Pass, entry: Entry) -> (Pass, u64)
         requires record { pass.id ≡ self.now.id }
         requires room { length pass.log < self.now.limits.room }
         requires own { is_access entry.what ≡ false }
         ensures pass { result.0 ≡ add_entry pass (log_entry entry pass.hart None result.1) }
         ensures above { Ascends 0 result.1 pass.log }
+        ensures seen { pass.seen ≤ result.1 }
     {
         let Pass { hart, mut seat } = pass;
         let number = steps::note_own::<Brand>(&self.table, &mut seat, &entry);
@@ -103,8 +104,8 @@ impl AccessRecord {
     }
 
     /// Notes an access of a hart at a bank in both logs by one number, which it answers. The number is
-    /// above all in both logs, and so far the logs agree: the hart's entries that name the bank are
-    /// the bank's entries that name the hart.
+    /// above all in both logs and at least what each pass has seen, and so far the logs agree: the
+    /// hart's entries that name the bank are the bank's entries that name the hart.
     pub fn note_both(&self, pass: Pass, bank_pass: BankPass, entry: Entry) -> (Pass, BankPass, u64)
         requires record { (pass.id ≡ self.now.id) × (bank_pass.id ≡ self.now.id) }
         requires room { length pass.log < self.now.limits.room }
@@ -113,6 +114,7 @@ impl AccessRecord {
         ensures bank_pass { result.1
             ≡ add_bank_entry bank_pass (log_entry entry pass.hart (Some bank_pass.bank) result.2) }
         ensures above { Ascends 0 result.2 pass.log × Ascends 0 result.2 bank_pass.log }
+        ensures seen { (pass.seen ≤ result.2) × (bank_pass.seen ≤ result.2) }
         ensures agree { on_bank bank_pass.bank pass.log ≡ of_hart pass.hart.0 bank_pass.log }
     {
         let Pass { hart, mut seat } = pass;
@@ -123,13 +125,14 @@ impl AccessRecord {
         (Pass { hart, seat }, BankPass { bank, seat: other }, number)
     }
 
-    /// Looks at the devices' log. The pass keeps it as what it looked at last, no log changes, and
-    /// the logs agree as for `note_both`.
+    /// Looks at the devices' log. The pass keeps it as what it looked at last, each of the two passes
+    /// learns what the other has seen, no log changes, and the logs agree as for `note_both`.
     pub fn look(&self, pass: Pass, bank_pass: BankPass) -> (Pass, BankPass)
         requires record { (pass.id ≡ self.now.id) × (bank_pass.id ≡ self.now.id) }
         requires devices { bank_pass.bank + 1 ≡ self.now.limits.banks }
-        ensures pass { result.0 ≡ add_look pass bank_pass.log }
-        ensures bank_pass { result.1 ≡ bank_pass }
+        ensures pass { result.0
+            ≡ record (add_look pass bank_pass.log) { seen = max pass.seen bank_pass.seen } }
+        ensures bank_pass { result.1 ≡ record bank_pass { seen = max pass.seen bank_pass.seen } }
         ensures agree { on_bank bank_pass.bank pass.log ≡ of_hart pass.hart.0 bank_pass.log }
     {
         let Pass { hart, mut seat } = pass;
@@ -137,6 +140,19 @@ impl AccessRecord {
         steps::join_seats(&self.table, &mut seat, other);
         steps::look(&self.table, &mut seat);
         let other = steps::split_banks(&self.table, &mut seat);
+        (Pass { hart, seat }, BankPass { bank, seat: other })
+    }
+
+    /// Each of the two passes learns what the other has seen. No log changes.
+    pub fn share(&self, pass: Pass, bank_pass: BankPass) -> (Pass, BankPass)
+        requires record { (pass.id ≡ self.now.id) × (bank_pass.id ≡ self.now.id) }
+        ensures pass { result.0 ≡ record pass { seen = max pass.seen bank_pass.seen } }
+        ensures bank_pass { result.1 ≡ record bank_pass { seen = max pass.seen bank_pass.seen } }
+    {
+        let Pass { hart, mut seat } = pass;
+        let BankPass { bank, seat: other } = bank_pass;
+        steps::join_seats(&self.table, &mut seat, other);
+        let other = steps::split_banks_shared(&self.table, &mut seat);
         (Pass { hart, seat }, BankPass { bank, seat: other })
     }
 

@@ -7,7 +7,7 @@ ghost use Rattle.access_record.specs.declared.view.HartView.{HartView};
 ghost use Rattle.access_record.specs.declared.view.BankView.{BankView};
 ghost use Rattle.access_record.specs.Logs.{is_access};
 ghost use Rattle.access_record.specs.Rule.{occurrences, view_of};
-ghost use Rattle.access_record.specs.Steps.{IsSeatOf, IsCountable, union, without_banks, banks_alone, with_hart, new_hart, with_bank, new_bank, with_entry, with_look, AgreesAt, without_first_hart, first_hart_alone, without_first_bank, first_bank_alone, HasAllLogs, IsWhole};
+ghost use Rattle.access_record.specs.Steps.{IsSeatOf, IsCountable, union, without_banks, banks_alone, without_banks_shared, banks_alone_shared, with_hart, new_hart, with_bank, new_bank, with_entry, with_look, AgreesAt, without_first_hart, first_hart_alone, without_first_bank, first_bank_alone, HasAllLogs, IsWhole};
 
 use crate::entry::Entry;
 use crate::view::{RecordSeat, RecordTable, View};
@@ -166,6 +166,26 @@ pub(crate) fn split_banks(table: &RecordTable, seat: &mut RecordSeat) -> RecordS
     ensures banks { result.me ≡ (banks_alone seat.old.me.0, []) }
 {
     table.shared.split_seat::<SplitBanks>(seat)
+}
+
+// A new seat gets the banks' logs, and the first hart and the first bank know what the other has seen.
+pub(crate) struct SplitBanksShared;
+
+impl Split<View> for SplitBanksShared {
+    ghost use Rattle.access_record.specs.Steps.{without_banks_shared, banks_alone_shared};
+
+    ghost left = { without_banks_shared };
+
+    ghost right = { banks_alone_shared };
+}
+
+pub(crate) fn split_banks_shared(table: &RecordTable, seat: &mut RecordSeat) -> RecordSeat
+    requires table { IsSeatOf seat.old.table_id table.now.shared.table_id }
+    ensures table { (seat.new.table_id ≡ seat.old.table_id) × (result.table_id ≡ seat.old.table_id) }
+    ensures harts { seat.new.me ≡ (without_banks_shared seat.old.me.0, seat.old.me.1) }
+    ensures banks { result.me ≡ (banks_alone_shared seat.old.me.0, []) }
+{
+    table.shared.split_seat::<SplitBanksShared>(seat)
 }
 
 // A new seat gets the first hart's log.

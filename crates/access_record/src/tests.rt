@@ -1,3 +1,4 @@
+mod rising;
 mod threads;
 
 use super::*;

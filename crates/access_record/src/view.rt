@@ -10,16 +10,20 @@ use std::collections::LinkedList;
 pub struct HartView {
     pub hart: HartId,
     pub log: LinkedList<LogEntry>,
+    /// The count of events was at least this when the pass last saw it.
+    pub seen: u64,
     /// How often it looked at the devices.
     pub looks: u64,
     /// The devices' log when it looked last.
     pub looked: LinkedList<LogEntry>,
 }
 
-/// A bank's log.
+/// A bank's log, with what its pass knows beside it.
 pub struct BankView {
     pub bank: u8,
     pub log: LinkedList<LogEntry>,
+    /// The count of events was at least this when the pass last saw it.
+    pub seen: u64,
 }
 
 /// The logs that a seat has. The founder's view also lists who is enrolled.
