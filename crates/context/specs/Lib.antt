@@ -1,0 +1,4 @@
+pub mod Contexts
+pub mod Obeying
+pub mod Fewness
+pub mod Held
