@@ -1,0 +1,3 @@
+pub mod Fewness
+pub mod Obeying
+pub mod Keeping

@@ -86,7 +86,7 @@ pub record StandsIn (setup : Setup) (c : Context) : Type 0 where
   pub follows : Follows setup c.pass.hart.0 (events_in c)
   pub at : IsIn setup (instruction_at setup c) c.hart c.progress (layout_of c.settings) c.settings.budget
   pub obeys : ObeysSoFar (plan_of c) (wants_in setup c) c.engine (moves (events_in c))
-  pub few : IsFew setup (instruction_at setup c) (plain_count (events_in c))
+  pub few : IsFew setup (instruction_at setup c) (plain_count (moves (events_in c)))
 
 -- what the type of a context keeps
 pub record IsContext (c : Context) : Type 0 where

@@ -1,28 +1,30 @@
 -- How many events a hart may still make.
-use Rattle.std.specs.Prelude.{◌≡◌, ℕ, zero, suc, ◌+◌, ◌-◌, ◌*◌, ◌≤◌, Bool, not, List, count_by}
+use Rattle.std.specs.Prelude.{ℕ, suc, ◌+◌, ◌-◌, ◌*◌, ◌≤◌, if◌then◌else◌, List, [], ◌∷◌}
 use Rattle.flex_base.specs.Setup.{Setup}
 use Rattle.flex_base.specs.StoryTree.{Story, Says, Closes, StaysOver, Parks, goes}
 use Rattle.flex_base.specs.Story.{story}
 use Rattle.flex_base.specs.Unsplit.{Instruction}
 use Rattle.flex_base.specs.Journal.{is_handover}
 use Rattle.flex_base.specs.declared.access.Reply.{Reply}
-use Rattle.flex_base.specs.declared.event.Event.{Event}
+use Rattle.flex_base.specs.declared.engine.Engine.{Engine}
+use Rattle.flex_base.specs.declared.event.What.{What}
 
 -- from here on come at most so many events, the end among them, where a parked hart is woken by the pulse that it makes
-abbrev pub Within : ℕ → Story → Type 0
-Within (suc n) (Says access next) = (reply : Reply) → Within n (next reply)
-Within (suc n) (Closes part after) = Unit {0}
-Within (suc n) (Parks wakes) = (lines : ℕ) → Within n (wakes lines)
-Within n StaysOver = Unit {0}
-Within n other = ⊥
+abbrev pub Within : Story → ℕ → Type 0
+Within StaysOver n = Unit {0}
+Within (Says access next) (suc n) = (reply : Reply) → Within (next reply) n
+Within (Closes part after) (suc n) = Unit {0}
+Within (Parks wakes) (suc n) = (lines : ℕ) → Within (wakes lines) n
+Within other n = ⊥
 
--- the events that are no handovers
-abbrev pub plain_count : List Event → ℕ
-plain_count events = count_by (λ (e : Event). not (is_handover e.what)) events
+-- how many of these are no handovers
+abbrev pub plain_count : List (Engine × What) → ℕ
+plain_count [] = 0
+plain_count (m ∷ made) = (if is_handover m.1 then 0 else 1) + plain_count made
 
 -- a hart that made so many events has few enough left: its instruction has some number left, and each end to come after it
 -- makes room for an instruction of 10
 pub record IsFew (setup : Setup) (i : Instruction) (made : ℕ) : Type 0 where
   pub rest : ℕ
-  pub within : Within rest (goes (story setup i.state) i.replies)
+  pub within : Within (goes (story setup i.state) i.replies) rest
   pub bound : made + rest + 11 * (setup.budget - i.state.ends) ≤ 11 * setup.budget + 10

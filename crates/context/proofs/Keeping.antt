@@ -1,0 +1,310 @@
+-- A context goes on as its log does.
+use Rattle.std.proofs.Common.{◌≡◌, ◌≢◌, ℕ, ◌+◌, ◌-◌, ◌*◌, ◌<◌, ◌≤◌, Bool, true, false, ◌==◌, if◌then◌else◌, List, [], ◌∷◌, ◌++◌, length, Option, None, Some, inl, inr, refl, sym, ap, subst, ◌∙◌, arith}
+use Rattle.std.proofs.lemmas.List.{length-append, length-map}
+use Rattle.flex_base.specs.Setup.{Setup}
+use Rattle.flex_base.specs.State.{State}
+use Rattle.flex_base.specs.StoryTree.{Want, Asks, Ends, IsOver, IsParked}
+use Rattle.flex_base.specs.Unsplit.{Instruction, instruction_from, instruction_after}
+use Rattle.flex_base.specs.Classes.{class_of_access, class_of_what}
+use Rattle.flex_base.specs.FlatMemory.{reply_with}
+use Rattle.flex_base.specs.Forms.{HasForm}
+use Rattle.flex_base.specs.Following.{wanted, next_access, MayDo, instruction_then, first_instruction, Follows, instruction_of, waits_by, waits_after, is_waiting, engine_after, last_engine}
+use Rattle.flex_base.specs.Journal.{event, is_handover}
+use Rattle.flex_base.specs.declared.access.Access.{Access}
+use Rattle.flex_base.specs.declared.access.Access.TheVariants as acc
+use Rattle.flex_base.specs.declared.access.Reply.{Reply}
+use Rattle.flex_base.specs.declared.class.Class.{Class}
+use Rattle.flex_base.specs.declared.class.Class.TheVariants as class
+use Rattle.flex_base.specs.declared.engine.Engine.{Engine}
+use Rattle.flex_base.specs.declared.event.EndPart.{EndPart}
+use Rattle.flex_base.specs.declared.event.Event.{Event}
+use Rattle.flex_base.specs.declared.event.What.{What}
+use Rattle.flex_base.specs.declared.event.What.TheVariants as what
+use Rattle.flex_base.specs.declared.hart.HartId.{HartId}
+use Rattle.flex_base.specs.declared.settings.Layout.{Layout}
+use Rattle.flex_base.proofs.Following.{leads_to-push, follows_push, is_waiting-push, last_engine-push}
+use Rattle.flex_base.proofs.ParkedStories.{asks-waiting, ends-waiting, parked-waiting}
+use Rattle.hart_story.specs.Progress.{IsIn}
+use Rattle.hart_story.specs.declared.hart.Hart.{Hart}
+use Rattle.hart_story.specs.declared.progress.Progress.{Progress}
+use Rattle.journal.specs.Log.{Log}
+use Rattle.access_record.specs.declared.entry.Entry.{Entry}
+use Rattle.access_record.specs.declared.entry.LogEntry.{LogEntry}
+use Rattle.access_record.specs.Logs.{log_entry}
+use Rattle.access_record.specs.Passes.{PassOfHart}
+use Rattle.access_record.specs.Buses.{Run, NamePlaces, NamesPlace, IsGiven, events_of, waits, engine_of, Extends}
+use Rattle.access_record.proofs.Extending.{events_of-push, extends-places}
+use Rattle.context.specs.declared.wants.Wants.{Wants}
+use Rattle.context.specs.declared.wants.Wants.TheVariants as wants
+use Rattle.context.specs.Obeying.{wants_of, IsFor, moves, ObeysSoFar}
+use Rattle.context.specs.Fewness.{plain_count, IsFew}
+use Rattle.context.specs.Contexts.{Context, context_of, plan_of, layout_of, IsRunOf, events_in, instruction_at, wants_in, IsWanting, IsWantedIn, StandsIn, IsContext, IsOn}
+use Rattle.context.proofs.Fewness.{few_access, few_end}
+use Rattle.context.proofs.Obeying.{moves-push, plain_count-push, obeys_event, obeys_handover, obeys_length}
+
+-- A context as it is.
+
+-- in a run of its image and settings its hart and its progress stand for its instruction
+pub in_run : (c : Context) (layout : Layout) (setup : Setup) → IsContext c → layout ≡ layout_of c.settings → IsRunOf c.entry c.settings setup
+    → IsIn setup (instruction_at setup c) c.hart c.progress layout c.settings.budget
+in_run c layout setup context same of =
+    let In : Layout → Type 0 = λ l. IsIn setup (instruction_at setup c) c.hart c.progress l c.settings.budget in
+    subst In (sym same) (context.stands setup of).at
+
+-- its log has room for an event more
+pub few_made : (c : Context) (setup : Setup) → IsContext c → IsRunOf c.entry c.settings setup → length (events_in c) + 1 ≤ 24 * c.settings.budget + 24
+few_made c setup context of =
+    let stands = context.stands setup of in
+    let long = obeys_length (plan_of c) (wants_in setup c) c.engine (moves (events_in c)) stands.obeys in
+    let same : length (moves (events_in c)) ≡ length (events_in c) = length-map (events_in c) (λ (e : Event). (e.engine, e.what)) in
+    omega (arith, long, same, stands.few.bound, of.budget)
+
+pub has_room : (c : Context) (setup : Setup) → IsContext c → IsRunOf c.entry c.settings setup → 1 ≤ c.log.room
+has_room c setup context of = omega (arith, few_made c setup context of, context.room, ap length context.whole)
+
+-- the bus takes its pass
+pub is_given : (run : Run) (c : Context) → IsContext c → IsOn run c → IsGiven run c.pass
+is_given run c context on =
+    let same : length (events_in c) ≡ length c.pass.log = length-map c.pass.log (λ (e : LogEntry). e.event) in
+    record {
+      book = on.book;
+      hart = omega (arith, context.below, on.setup.harts);
+      room = omega (arith, few_made c run.setup context on.setup, on.limit, same);
+      follows = (context.stands run.setup on.setup).follows;
+      places = on.places;
+    }
+
+-- who wants an event doesn't wait
+unwaiting : (plan : Class → Engine) (w : Want) (setup : Setup) (c : Context) (engine : Engine) → Follows setup c.pass.hart.0 (events_in c)
+    → wanted setup (instruction_at setup c) ≡ w → IsFor plan (wants_of w) engine → waits c.pass ≡ false
+unwaiting plan (Asks access) setup c engine follows is for_it = asks-waiting setup c.pass.hart.0 (events_in c) access follows is
+unwaiting plan (Ends part next) setup c engine follows is for_it = ends-waiting setup c.pass.hart.0 (events_in c) part next follows is
+unwaiting plan IsOver setup c engine follows is for_it = absurd for_it
+unwaiting plan IsParked setup c engine follows is for_it = absurd for_it
+
+pub not_waiting : (c : Context) (setup : Setup) (engine : Engine) → IsContext c → IsRunOf c.entry c.settings setup → IsWantedIn c engine → waits c.pass ≡ false
+not_waiting c setup engine context of w =
+    unwaiting (plan_of c) (wanted setup (instruction_at setup c)) setup c engine (context.stands setup of).follows refl
+    (subst (λ (x : Wants). IsFor (plan_of c) x engine) (sym (w.1 setup of)) w.2)
+
+wants_parked : (w : Want) → wants_of w ≡ wants.Parked → w ≡ IsParked
+wants_parked IsParked is = refl
+wants_parked (Asks access) is = absurd cc
+wants_parked (Ends part next) is = absurd cc
+wants_parked IsOver is = absurd cc
+
+-- who wants to be woken is parked, and waits
+pub is_parked : (c : Context) (setup : Setup) → IsRunOf c.entry c.settings setup → IsWanting c wants.Parked → wanted setup (instruction_at setup c) ≡ IsParked
+is_parked c setup of w = wants_parked (wanted setup (instruction_at setup c)) (w setup of)
+
+pub is_waiting_in : (c : Context) (setup : Setup) → IsContext c → IsRunOf c.entry c.settings setup → IsWanting c wants.Parked → waits c.pass ≡ true
+is_waiting_in c setup context of w =
+    parked-waiting setup c.pass.hart.0 (events_in c) (context.stands setup of).follows (is_parked c setup of w)
+
+-- One event more.
+
+abbrev pub next : Context → Hart → Progress → PassOfHart → Log → Engine → ℕ → Context
+next c hart progress pass log engine left = context_of hart progress pass log c.plan c.settings c.entry engine left
+
+-- the pass and the log have this event more
+pub record Gains (c : Context) (pass : PassOfHart) (log : Log) (happened : What) (bank : Option ℕ) (number : ℕ) : Type 0 where
+  pub extends : Extends c.pass pass (record { engine = c.engine; what = happened }) bank number
+  pub grown : log ≡ record { events = c.log.events ++ event number pass.hart.0 c.engine happened ∷ []; room = c.log.room - 1 }
+
+module _ (c : Context) (hart : Hart) (progress : Progress) (pass : PassOfHart) (log : Log) (engine : Engine) (left : ℕ)
+    (happened : What) (bank : Option ℕ) (number : ℕ) (context : IsContext c) (gains : Gains c pass log happened bank number) where
+  abbrev e : Event
+  e = event number c.pass.hart.0 c.engine happened
+
+  abbrev d : Context
+  d = next c hart progress pass log engine left
+
+  more : events_in d ≡ events_in c ++ e ∷ []
+  more = ap events_of gains.extends.log ∙ events_of-push c.pass.log (log_entry (record { engine = c.engine; what = happened }) c.pass.hart bank number)
+
+  whole : log.events ≡ events_in d
+  whole =
+      let made : log.events ≡ c.log.events ++ event number pass.hart.0 c.engine happened ∷ [] = ap (λ (l : Log). l.events) gains.grown in
+      let its : c.log.events ++ event number pass.hart.0 c.engine happened ∷ [] ≡ events_in c ++ e ∷ [] =
+      ap (λ (p : List Event × HartId). p.0 ++ event number p.1.0 c.engine happened ∷ []) (λ i. (context.whole i, gains.extends.hart i)) in
+      made ∙ its ∙ sym more
+
+  room : 1 ≤ c.log.room → log.room + length log.events ≡ 24 * c.settings.budget + 24
+  room some =
+      let events : length log.events ≡ length c.log.events + 1 = ap (λ (l : Log). length l.events) gains.grown ∙ length-append c.log.events (event number pass.hart.0 c.engine happened ∷ []) in
+      let left_is : log.room ≡ c.log.room - 1 = ap (λ (l : Log). l.room) gains.grown in
+      omega (arith, events, left_is, context.room, some)
+
+  waits_is : waits pass ≡ waits_after (waits c.pass) happened
+  waits_is = ap is_waiting more ∙ is_waiting-push (events_in c) e
+
+  engine_is : engine_of pass ≡ engine_after (engine_of c.pass) c.engine happened
+  engine_is = ap last_engine more ∙ last_engine-push (events_in c) e
+
+  module _ (setup : Setup) (of : IsRunOf c.entry c.settings setup) where
+    abbrev i : Instruction
+    i = instruction_at setup c
+
+    leads : instruction_at setup d ≡ instruction_then setup i happened
+    leads =
+        ap (λ (p : HartId × List Event). instruction_of setup p.0.0 p.1) (λ k. (gains.extends.hart k, more k))
+        ∙ leads_to-push setup (first_instruction setup c.pass.hart.0) (events_in c) e
+
+    follows : MayDo setup i happened → Follows setup pass.hart.0 (events_in d)
+    follows may =
+        let to = follows_push setup (first_instruction setup c.pass.hart.0) (events_in c) e (context.stands setup of).follows may in
+        subst (λ (p : HartId × List Event). Follows setup p.0.0 p.1) (λ k. (sym gains.extends.hart k, sym more k)) to
+
+    moves_are : moves (events_in d) ≡ moves (events_in c) ++ (c.engine, happened) ∷ []
+    moves_are = ap moves more ∙ moves-push (events_in c) e
+
+    -- an event in its engine
+    obeys : (w : Wants) → is_handover happened ≡ false → plan_of c (class_of_what happened) ≡ c.engine
+        → ObeysSoFar (plan_of c) w c.engine (moves (events_in d))
+    obeys w plain in_it =
+        subst (λ (ms : List (Engine × What)). ObeysSoFar (plan_of c) w c.engine ms) (sym moves_are)
+        (obeys_event (plan_of c) (wants_in setup c) w c.engine (moves (events_in c)) happened plain in_it (context.stands setup of).obeys)
+
+    counted : (more_made : ℕ) (j : Instruction) → instruction_then setup i happened ≡ j → (if is_handover happened then 0 else 1) ≡ more_made
+        → IsFew setup j (plain_count (moves (events_in c)) + more_made) → IsFew setup (instruction_at setup d) (plain_count (moves (events_in d)))
+    counted more_made j to one few =
+        let count : plain_count (moves (events_in c)) + more_made ≡ plain_count (moves (events_in d)) =
+        ap (λ (n : ℕ). plain_count (moves (events_in c)) + n) (sym one) ∙ sym (plain_count-push (moves (events_in c)) c.engine happened) ∙ ap plain_count (sym moves_are) in
+        subst (λ (p : Instruction × ℕ). IsFew setup p.0 p.1) (λ k. (sym (leads ∙ to) k, count k)) few
+
+    at : (j : Instruction) → instruction_then setup i happened ≡ j → IsIn setup j hart progress (layout_of c.settings) c.settings.budget
+        → IsIn setup (instruction_at setup d) hart progress (layout_of c.settings) c.settings.budget
+    at j to in_it = subst (λ (k : Instruction). IsIn setup k hart progress (layout_of c.settings) c.settings.budget) (sym (leads ∙ to)) in_it
+
+  -- the context is of the same run of a bus
+  pub on_run : (run : Run) → IsOn run c → NamesPlace run bank happened → IsOn run d
+  on_run run on named = record {
+    book = gains.extends.id ∙ on.book;
+    setup = on.setup;
+    places = extends-places run c.pass pass (record { engine = c.engine; what = happened }) bank number gains.extends on.places named;
+    limit = on.limit;
+  }
+
+-- who waits after an access was told so by a wait
+told_by : (access : Access) (reply : Reply) → waits_by false access reply ≡ true → class_of_access access ≡ class.Pulse
+told_by (acc.Wait mie) reply told = refl
+told_by (acc.Pulse tick) reply told = refl
+told_by acc.Retire reply told = absurd cc
+told_by (acc.Fetch address) reply told = absurd cc
+told_by (acc.Pte address) reply told = absurd cc
+told_by (acc.Read address width) reply told = absurd cc
+told_by (acc.Write address width value) reply told = absurd cc
+told_by (acc.Lr address width) reply told = absurd cc
+told_by (acc.Sc address width value) reply told = absurd cc
+told_by (acc.Amo op address width value) reply told = absurd cc
+told_by (acc.DevRead address width) reply told = absurd cc
+told_by (acc.DevWrite address width value) reply told = absurd cc
+told_by acc.Time reply told = absurd cc
+
+-- What keeps a context.
+
+-- after an access that its hart asked, with a reply of its form
+module _ (c : Context) (progress : Progress) (pass : PassOfHart) (log : Log) (access : Access) (reply : Reply) (bank : Option ℕ) (number : ℕ)
+    (context : IsContext c) (some : 1 ≤ c.log.room) (gains : Gains c pass log (what.Acc access reply) bank number) (form : HasForm access reply)
+    (in_it : plan_of c (class_of_access access) ≡ c.engine)
+    (given : (setup : Setup) → IsRunOf c.entry c.settings setup
+    → IsIn setup (record (instruction_at setup c) { replies = (instruction_at setup c).replies ++ reply ∷ [] }) c.hart progress (layout_of c.settings) c.settings.budget)
+    (asks : (setup : Setup) → IsRunOf c.entry c.settings setup → next_access (wanted setup (instruction_at setup c)) ≡ Some access)
+    (woken : (setup : Setup) → IsRunOf c.entry c.settings setup → wanted setup (instruction_at setup c) ≡ IsParked → reply.value ≡ 0)
+    (told : waits pass ≡ true → class_of_access access ≡ class.Pulse) where
+  stands_after : (setup : Setup) → IsRunOf c.entry c.settings setup → StandsIn setup (next c c.hart progress pass log c.engine c.left)
+  stands_after setup of =
+      let i = instruction_at setup c in
+      let j : Instruction = record i { replies = i.replies ++ reply ∷ [] } in
+      record {
+        follows = follows c c.hart progress pass log c.engine c.left (what.Acc access reply) bank number context gains setup of (asks setup of, form);
+        at = at c c.hart progress pass log c.engine c.left (what.Acc access reply) bank number context gains setup of j refl (given setup of);
+        obeys = obeys c c.hart progress pass log c.engine c.left (what.Acc access reply) bank number context gains setup of _ refl in_it;
+        few = counted c c.hart progress pass log c.engine c.left (what.Acc access reply) bank number context gains setup of 1 j refl refl
+            (few_access setup i access reply _ (asks setup of) (woken setup of) (context.stands setup of).few);
+      }
+
+  pub after_access : IsContext (next c c.hart progress pass log c.engine c.left)
+  after_access = record {
+    whole = whole c c.hart progress pass log c.engine c.left (what.Acc access reply) bank number context gains;
+    room = room c c.hart progress pass log c.engine c.left (what.Acc access reply) bank number context gains some;
+    below = subst (λ (h : HartId). h.0 < c.settings.harts) (sym gains.extends.hart) context.below;
+    stands = stands_after;
+    told = λ w. (
+      engine_is c c.hart progress pass log c.engine c.left (what.Acc access reply) bank number context gains,
+      ap (plan_of c) (sym (told w)) ∙ in_it,
+    );
+    round = context.round;
+  }
+
+-- after a handover to the engine of what its hart wants
+module _ (c : Context) (pass : PassOfHart) (log : Log) (to : Engine) (bank : Option ℕ) (number : ℕ)
+    (context : IsContext c) (some : 1 ≤ c.log.room) (gains : Gains c pass log (what.Handover to) bank number)
+    (wanted_in : IsWantedIn c to) (other : to ≢ c.engine) (awake : waits c.pass ≡ false) where
+  stands_moved : (setup : Setup) → IsRunOf c.entry c.settings setup → StandsIn setup (next c c.hart c.progress pass log to c.left)
+  stands_moved setup of =
+      let i = instruction_at setup c in
+      let stands = context.stands setup of in
+      let now = leads c c.hart c.progress pass log to c.left (what.Handover to) bank number context gains setup of in
+      let for_it : IsFor (plan_of c) (wants_in setup c) to = subst (λ (x : Wants). IsFor (plan_of c) x to) (sym (wanted_in.1 setup of)) wanted_in.2 in
+      let obeyed = obeys_handover (plan_of c) (wants_in setup c) c.engine to (moves (events_in c)) other for_it stands.obeys in
+      let moved = moves_are c c.hart c.progress pass log to c.left (what.Handover to) bank number context gains setup of in
+      record {
+        follows = follows c c.hart c.progress pass log to c.left (what.Handover to) bank number context gains setup of tt;
+        at = at c c.hart c.progress pass log to c.left (what.Handover to) bank number context gains setup of i refl stands.at;
+        obeys = subst (λ (p : Instruction × List (Engine × What)). ObeysSoFar (plan_of c) (wants_of (wanted setup p.0)) to p.1)
+            (λ k. (sym now k, sym moved k)) obeyed;
+        few = counted c c.hart c.progress pass log to c.left (what.Handover to) bank number context gains setup of 0 i refl refl
+            (let same : plain_count (moves (events_in c)) ≡ plain_count (moves (events_in c)) + 0 = omega arith in
+            subst (IsFew setup i) same stands.few);
+      }
+
+  pub after_handover : IsContext (next c c.hart c.progress pass log to c.left)
+  after_handover = record {
+    whole = whole c c.hart c.progress pass log to c.left (what.Handover to) bank number context gains;
+    room = room c c.hart c.progress pass log to c.left (what.Handover to) bank number context gains some;
+    below = subst (λ (h : HartId). h.0 < c.settings.harts) (sym gains.extends.hart) context.below;
+    stands = stands_moved;
+    told = λ w.
+        let false_is : waits pass ≡ false = waits_is c c.hart c.progress pass log to c.left (what.Handover to) bank number context gains ∙ awake in
+        absurd cc;
+    round = context.round;
+  }
+
+-- the hart's instruction has come to this end, and it stands at the start of the next one
+pub record HasEnded (setup : Setup) (c : Context) (part : EndPart) (hart : Hart) (progress : Progress) : Type 0 where
+  pub after : State
+  pub ends : wanted setup (instruction_at setup c) ≡ Ends part after
+  pub unspent : (instruction_at setup c).state.ends < setup.budget
+  pub more : after.ends ≡ (instruction_at setup c).state.ends + 1
+  pub at : IsIn setup (instruction_from after) hart progress (layout_of c.settings) c.settings.budget
+
+-- after the end of its hart's instruction
+module _ (c : Context) (hart : Hart) (progress : Progress) (pass : PassOfHart) (log : Log) (left : ℕ) (part : EndPart) (bank : Option ℕ) (number : ℕ)
+    (context : IsContext c) (some : 1 ≤ c.log.room) (gains : Gains c pass log (what.End part) bank number)
+    (in_it : plan_of c part.class ≡ c.engine) (awake : waits c.pass ≡ false) (less : left + 1 ≡ c.left) (count : hart.regs.ends ≡ c.hart.regs.ends + 1)
+    (ended : (setup : Setup) → IsRunOf c.entry c.settings setup → HasEnded setup c part hart progress) where
+  stands_ended : (setup : Setup) → IsRunOf c.entry c.settings setup → StandsIn setup (next c hart progress pass log c.engine left)
+  stands_ended setup of =
+      let i = instruction_at setup c in
+      let e = ended setup of in
+      let to : instruction_then setup i (what.End part) ≡ instruction_from e.after = ap (λ w. instruction_after i w (reply_with 0)) e.ends in
+      record {
+        follows = follows c hart progress pass log c.engine left (what.End part) bank number context gains setup of (e.after, e.ends);
+        at = at c hart progress pass log c.engine left (what.End part) bank number context gains setup of (instruction_from e.after) to e.at;
+        obeys = obeys c hart progress pass log c.engine left (what.End part) bank number context gains setup of _ refl in_it;
+        few = counted c hart progress pass log c.engine left (what.End part) bank number context gains setup of 1 (instruction_from e.after) to refl
+            (few_end setup i part e.after _ e.ends e.unspent e.more (context.stands setup of).few);
+      }
+
+  pub after_end : IsContext (next c hart progress pass log c.engine left)
+  after_end = record {
+    whole = whole c hart progress pass log c.engine left (what.End part) bank number context gains;
+    room = room c hart progress pass log c.engine left (what.End part) bank number context gains some;
+    below = subst (λ (h : HartId). h.0 < c.settings.harts) (sym gains.extends.hart) context.below;
+    stands = stands_ended;
+    told = λ w.
+        let false_is : waits pass ≡ false = waits_is c hart progress pass log c.engine left (what.End part) bank number context gains ∙ awake in
+        absurd cc;
+    round = omega (arith, context.round, less, count);
+  }
