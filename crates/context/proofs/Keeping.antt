@@ -24,7 +24,9 @@ use Rattle.flex_base.specs.declared.hart.HartId.{HartId}
 use Rattle.flex_base.specs.declared.settings.Layout.{Layout}
 use Rattle.flex_base.proofs.Following.{leads_to-push, follows_push, is_waiting-push, last_engine-push}
 use Rattle.flex_base.proofs.ParkedStories.{asks-waiting, ends-waiting, parked-waiting}
-use Rattle.hart_story.specs.Progress.{IsIn}
+use Rattle.hart_story.specs.Progress.{IsIn, begun, EndsWith}
+use Rattle.hart_story.specs.Progress as story
+use Rattle.hart_story.proofs.Needing.{wants_asked, parked_asked}
 use Rattle.hart_story.specs.declared.hart.Hart.{Hart}
 use Rattle.hart_story.specs.declared.progress.Progress.{Progress}
 use Rattle.journal.specs.Log.{Log}
@@ -32,13 +34,13 @@ use Rattle.access_record.specs.declared.entry.Entry.{Entry}
 use Rattle.access_record.specs.declared.entry.LogEntry.{LogEntry}
 use Rattle.access_record.specs.Logs.{log_entry}
 use Rattle.access_record.specs.Passes.{PassOfHart}
-use Rattle.access_record.specs.Buses.{Run, NamePlaces, NamesPlace, IsGiven, events_of, waits, engine_of, Extends}
+use Rattle.access_record.specs.Buses.{Run, NamesPlace, IsGiven, events_of, waits, engine_of, place_in, Extends, InOrder}
 use Rattle.access_record.proofs.Extending.{events_of-push, extends-places}
 use Rattle.context.specs.declared.wants.Wants.{Wants}
 use Rattle.context.specs.declared.wants.Wants.TheVariants as wants
 use Rattle.context.specs.Obeying.{wants_of, IsFor, moves, ObeysSoFar}
 use Rattle.context.specs.Fewness.{plain_count, IsFew}
-use Rattle.context.specs.Contexts.{Context, context_of, plan_of, layout_of, IsRunOf, events_in, instruction_at, wants_in, IsWanting, IsWantedIn, StandsIn, IsContext, IsOn}
+use Rattle.context.specs.Contexts.{Context, context_of, plan_of, layout_of, IsRunOf, events_in, instruction_at, wants_in, IsWanting, IsWantedIn, IsAsking, StandsIn, IsContext, IsOn, Steps, Moves}
 use Rattle.context.proofs.Fewness.{few_access, few_end}
 use Rattle.context.proofs.Obeying.{moves-push, plain_count-push, obeys_event, obeys_handover, obeys_length}
 
@@ -73,6 +75,19 @@ is_given run c context on =
       follows = (context.stands run.setup on.setup).follows;
       places = on.places;
     }
+
+-- some run that it may be of
+abbrev some_setup : Context → Setup
+some_setup c = record { image = record { entry = c.entry; parts = [] }; harts = c.settings.harts; ram = c.settings.ram; budget = c.settings.budget; input = [] }
+
+some_run : (c : Context) → IsRunOf c.entry c.settings (some_setup c)
+some_run c = record { entry_is = refl; harts = refl; ram = refl; budget = refl }
+
+-- its round isn't over
+pub left_some : (c : Context) → IsContext c → 0 < c.left
+left_some c context =
+    let at = (context.stands (some_setup c) (some_run c)).at in
+    omega (arith, context.round, at.stands.regs.ends, at.fit.within)
 
 -- who wants an event doesn't wait
 unwaiting : (plan : Class → Engine) (w : Want) (setup : Setup) (c : Context) (engine : Engine) → Follows setup c.pass.hart.0 (events_in c)
@@ -110,6 +125,15 @@ next c hart progress pass log engine left = context_of hart progress pass log c.
 pub record Gains (c : Context) (pass : PassOfHart) (log : Log) (happened : What) (bank : Option ℕ) (number : ℕ) : Type 0 where
   pub extends : Extends c.pass pass (record { engine = c.engine; what = happened }) bank number
   pub grown : log ≡ record { events = c.log.events ++ event number pass.hart.0 c.engine happened ∷ []; room = c.log.room - 1 }
+
+-- by what the bus and the log say, where the pass tells the hart's number
+pub gained : (c : Context) (pass : PassOfHart) (log : Log) (happened : What) (bank : Option ℕ) (number : ℕ) (id : HartId)
+    → Extends c.pass pass (record { engine = c.engine; what = happened }) bank number → id ≡ pass.hart
+    → log ≡ record { events = c.log.events ++ event number id.0 c.engine happened ∷ []; room = c.log.room - 1 }
+    → Gains c pass log happened bank number
+gained c pass log happened bank number id extends its grown =
+    let Grown : HartId → Type 0 = λ h. log ≡ record { events = c.log.events ++ event number h.0 c.engine happened ∷ []; room = c.log.room - 1 } in
+    record { extends = extends; grown = subst Grown its grown }
 
 module _ (c : Context) (hart : Hart) (progress : Progress) (pass : PassOfHart) (log : Log) (engine : Engine) (left : ℕ)
     (happened : What) (bank : Option ℕ) (number : ℕ) (context : IsContext c) (gains : Gains c pass log happened bank number) where
@@ -200,6 +224,13 @@ told_by (acc.Amo op address width value) reply told = absurd cc
 told_by (acc.DevRead address width) reply told = absurd cc
 told_by (acc.DevWrite address width value) reply told = absurd cc
 told_by acc.Time reply told = absurd cc
+
+-- who asked an access waits after it where it was one of a pulse's class
+pub asked_told : (c : Context) (pass : PassOfHart) (log : Log) (access : Access) (reply : Reply) (bank : Option ℕ) (number : ℕ)
+    → IsContext c → Gains c pass log (what.Acc access reply) bank number → waits c.pass ≡ false → waits pass ≡ true → class_of_access access ≡ class.Pulse
+asked_told c pass log access reply bank number context gains awake w =
+    let is = waits_is c c.hart c.progress pass log c.engine c.left (what.Acc access reply) bank number context gains in
+    told_by access reply (ap (λ was. waits_by was access reply) (sym awake) ∙ sym is ∙ w)
 
 -- What keeps a context.
 
@@ -308,3 +339,59 @@ module _ (c : Context) (hart : Hart) (progress : Progress) (pass : PassOfHart) (
         absurd cc;
     round = omega (arith, context.round, less, count);
   }
+
+-- What a call of a context makes of it.
+
+-- what the reply leads to, in each run in which the hart stands for an instruction that asks this access
+abbrev pub GoesOn : Context → Progress → Layout → Access → Reply → Type 0
+GoesOn c progress layout access reply = (setup : Setup) (i : Instruction) (other : Access)
+    → IsIn setup i c.hart c.progress layout c.settings.budget → story.IsAsking setup i other
+    → IsIn setup (record i { replies = i.replies ++ reply ∷ [] }) c.hart progress layout c.settings.budget
+
+pub makes_access : (c : Context) (progress : Progress) (pass : PassOfHart) (log : Log) (access : Access) (reply : Reply) (bank : Option ℕ) (number : ℕ)
+    (setup : Setup) (layout : Layout) → IsContext c → IsRunOf c.entry c.settings setup → IsAsking c access → HasForm access reply
+    → Gains c pass log (what.Acc access reply) bank number → layout ≡ layout_of c.settings → GoesOn c progress layout access reply
+    → IsContext (next c c.hart progress pass log c.engine c.left)
+makes_access c progress pass log access reply bank number setup layout context of asking form gains same on =
+    let awake = asks-waiting setup c.pass.hart.0 (events_in c) access (context.stands setup of).follows (asking.asks setup of) in
+    after_access c progress pass log access reply bank number context (has_room c setup context of) gains form asking.class_is
+    (λ one its.
+    let In : Layout → Type 0 = λ l. IsIn one (record (instruction_at one c) { replies = (instruction_at one c).replies ++ reply ∷ [] }) c.hart progress l c.settings.budget in
+    subst In same (on one (instruction_at one c) access (in_run c layout one context same its) (wants_asked _ access (asking.asks one its))))
+    (λ one its. ap next_access (asking.asks one its))
+    (λ one its parked. let not_so = sym (asking.asks one its) ∙ parked in absurd cc)
+    (asked_told c pass log access reply bank number context gains awake)
+
+pub steps_access : (setup : Setup) (before after : Option ℕ) (c : Context) (progress : Progress) (pass : PassOfHart) (log : Log) (access : Access) (reply : Reply)
+    (bank : Option ℕ) (number : ℕ) → IsRunOf c.entry c.settings setup → IsAsking c access → HasForm access reply
+    → Gains c pass log (what.Acc access reply) bank number → InOrder before number after
+    → Steps setup before after c (next c c.hart progress pass log c.engine c.left)
+steps_access setup before after c progress pass log access reply bank number of asking form gains order = record {
+  happened = what.Acc access reply;
+  adds = record { bank = bank; number = number; noted = gains.extends; order = order };
+  may = (ap next_access (asking.asks setup of), form);
+  plain = refl;
+  engine = refl;
+  left = omega arith;
+}
+
+pub steps_from : (setup : Setup) (before after : Option ℕ) (c k d : Context) → c ≡ k → Steps setup before after c d → Steps setup before after k d
+steps_from setup before after c k d is steps = subst (λ (x : Context). Steps setup before after x d) is steps
+
+-- A handover.
+
+pub moves_from : (before after : Option ℕ) (to : Engine) (c k d : Context) → c ≡ k → Moves before after to c d → Moves before after to k d
+moves_from before after to c k d is moved = subst (λ (x : Context). Moves before after to x d) is moved
+
+pub makes_handover : (c : Context) (pass : PassOfHart) (log : Log) (to : Engine) (bank : Option ℕ) (number : ℕ) (setup : Setup) → IsContext c
+    → IsRunOf c.entry c.settings setup → IsWantedIn c to → to ≢ c.engine → Gains c pass log (what.Handover to) bank number
+    → IsContext (next c c.hart c.progress pass log to c.left)
+makes_handover c pass log to bank number setup context of wanted_in other gains =
+    after_handover c pass log to bank number context (has_room c setup context of) gains wanted_in other (not_waiting c setup to context of wanted_in)
+
+-- An end.
+
+-- what the end leads to, in each run in which the hart stands for an instruction that comes to it
+abbrev pub EndsSo : Context → Progress → Layout → EndPart → Hart → Type 0
+EndsSo c progress layout part hart = (setup : Setup) (i : Instruction) (other : EndPart) (after : State)
+    → IsIn setup i c.hart c.progress layout c.settings.budget → story.IsEnding setup i other after → EndsWith setup (story.want_in setup i) part hart

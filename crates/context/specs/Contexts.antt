@@ -2,9 +2,12 @@
 use Rattle.std.specs.Prelude.{◌≡◌, ℕ, ◌+◌, ◌*◌, ◌<◌, Bool, true, false, List, [], ◌∷◌, length, Option, Some}
 use Rattle.flex_base.specs.Setup.{Setup}
 use Rattle.flex_base.specs.Unsplit.{Instruction}
-use Rattle.flex_base.specs.Forms.{HasForm}
+use Rattle.flex_base.specs.StoryTree.{Asks}
+use Rattle.flex_base.specs.Classes.{class_of_access}
+use Rattle.flex_base.specs.Forms.{HasForm, IsPlaced}
 use Rattle.flex_base.specs.Following.{wanted, MayDo, Follows, instruction_of}
 use Rattle.flex_base.specs.Journal.{is_handover}
+use Rattle.flex_base.specs.declared.access.Access.{Access}
 use Rattle.flex_base.specs.declared.access.Access.TheVariants as acc
 use Rattle.flex_base.specs.declared.access.Reply.{Reply}
 use Rattle.flex_base.specs.declared.class.Class.{Class}
@@ -15,7 +18,9 @@ use Rattle.flex_base.specs.declared.event.What.{What}
 use Rattle.flex_base.specs.declared.event.What.TheVariants as what
 use Rattle.flex_base.specs.declared.settings.Layout.{Layout}
 use Rattle.flex_base.specs.declared.settings.Settings.{Settings}
+use Rattle.hart_story.specs.Need.{need_of}
 use Rattle.hart_story.specs.Progress.{IsIn, begun}
+use Rattle.hart_story.specs.declared.progress.Need.TheVariants as need
 use Rattle.hart_story.specs.declared.hart.Hart.{Hart}
 use Rattle.hart_story.specs.declared.progress.Progress.{Progress}
 use Rattle.journal.specs.Log.{Log}
@@ -79,6 +84,18 @@ IsWanting c w = (setup : Setup) → IsRunOf c.entry c.settings setup → wants_i
 -- it wants an event of a class that the plan gives this engine
 abbrev pub IsWantedIn : Context → Engine → Type 0
 IsWantedIn c engine = (w : Wants) × IsWanting c w × IsFor (plan_of c) w engine
+
+-- the hart asks this access, which stands where its kind may stand and is of a class that the plan gives the context's engine
+pub record IsAsking (c : Context) (access : Access) : Type 0 where
+  pub asks : (setup : Setup) → IsRunOf c.entry c.settings setup → wanted setup (instruction_at setup c) ≡ Asks access
+  pub placed : (setup : Setup) → IsRunOf c.entry c.settings setup → IsPlaced setup.harts setup.ram access
+  pub class_is : plan_of c (class_of_access access) ≡ c.engine
+
+-- the hart comes to the end of its instruction, of a class that the plan gives the context's engine
+pub record IsEnding (c : Context) : Type 0 where
+  pub class : Class
+  pub ends : (setup : Setup) → IsRunOf c.entry c.settings setup → need.Finish class ≡ need_of (wanted setup (instruction_at setup c))
+  pub class_is : plan_of c class ≡ c.engine
 
 -- of a run: the log follows the story, the hart and its progress are where the log leads, the log obeys the plan so far, and
 -- few enough events are still to come

@@ -4,14 +4,10 @@ ghost use Rattle.flex_base.specs.State.{start};
 ghost use Rattle.flex_base.specs.Loaded.{Loaded, image_fits};
 ghost use Rattle.flex_base.specs.Limits.{is_lawful};
 ghost use Rattle.hart_story.specs.StandsFor.{StandsFor};
-ghost use Rattle.flex_base.specs.Classes.{class_of_access};
 ghost use Rattle.flex_base.specs.Following.{wanted};
-ghost use Rattle.flex_base.specs.Forms.{IsPlaced};
-ghost use Rattle.flex_base.specs.StoryTree.{Asks};
-ghost use Rattle.flex_base.specs.declared.class.Class.{Class};
 ghost use Rattle.hart_story.specs.Need.{need_of, AsksPlaced};
 ghost use Rattle.context.specs.declared.wants.Wants.TheVariants as Wants;
-ghost use Rattle.context.specs.Contexts.{new_context, plan_of, layout_of, IsRunOf, instruction_at, IsWanting, IsWantedIn, IsContext, IsOn, IsSame, Steps, Moves, HasTried};
+ghost use Rattle.context.specs.Contexts.{new_context, layout_of, IsRunOf, instruction_at, IsWanting, IsWantedIn, IsAsking, IsEnding, IsContext, IsOn, IsSame, Steps, Moves, HasTried};
 
 use crate::held::HeldPass;
 use crate::wants::Wants;
@@ -259,11 +255,7 @@ impl HartContext {
     // Makes the access that the hart asks, in an engine that runs its class.
     fn make_access<B: Bus>(&mut self, bus: &mut B, access: Access)
         requires on { IsOn (B.run bus.old) self.old }
-        requires asks { (setup : Setup) → IsRunOf self.old.entry self.old.settings setup
-            → wanted setup (instruction_at setup self.old) ≡ Asks access }
-        requires placed { (setup : Setup) → IsRunOf self.old.entry self.old.settings setup
-            → IsPlaced setup.harts setup.ram access }
-        requires class { plan_of self.old (class_of_access access) ≡ self.old.engine }
+        requires asks { IsAsking self.old access }
         ensures one { Steps (B.run bus.old).setup (B.order bus.old) (B.order bus.new) self.old self.new }
         ensures same { IsSame self.old self.new }
         ensures on { IsOn (B.run bus.old) self.new }
@@ -279,7 +271,7 @@ impl HartContext {
     // Ends the hart's instruction, in an engine that runs the class of the end.
     fn make_end<B: Bus>(&mut self, bus: &mut B)
         requires on { IsOn (B.run bus.old) self.old }
-        requires ends { (class : Class) × IsWanting self.old (Wants.Finish class) × (plan_of self.old class ≡ self.old.engine) }
+        requires ends { IsEnding self.old }
         requires left { 0 < self.old.left }
         ensures one { Steps (B.run bus.old).setup (B.order bus.old) (B.order bus.new) self.old self.new }
         ensures same { IsSame self.old self.new }

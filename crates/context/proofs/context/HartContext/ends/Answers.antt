@@ -2,8 +2,6 @@
 use Rattle.std.proofs.Common.{◌≡◌, subst}
 use Rattle.flex_base.specs.Setup.{Setup}
 use Rattle.context.specs.Contexts.{Context, IsRunOf, instruction_at}
-use Rattle.context.proofs.Keeping.{has_room}
-use Rattle.context.proofs.Obeying.{obeys_length}
 use Rattle.context.proofs.context.HartContext.ends.Goals as goal
 
 pub returns : goal.returns
