@@ -26,7 +26,11 @@ use Rattle.flex_base.proofs.Following.{leads_to-push, follows_push, is_waiting-p
 use Rattle.flex_base.proofs.ParkedStories.{asks-waiting, ends-waiting, parked-waiting}
 use Rattle.hart_story.specs.Progress.{IsIn, begun, EndsWith}
 use Rattle.hart_story.specs.Progress as story
-use Rattle.hart_story.proofs.Needing.{wants_asked, parked_asked}
+use Rattle.hart_story.proofs.Needing.{wants_asked, parked_asked, IsAtEnd, needs_finish}
+use Rattle.hart_story.proofs.Seeing.{are_none}
+use Rattle.hart_story.specs.Need.{need_of}
+use Rattle.hart_story.specs.declared.progress.Need.TheVariants as need
+use Rattle.flex_base.proofs.Stories.{ends_unspent}
 use Rattle.hart_story.specs.declared.hart.Hart.{Hart}
 use Rattle.hart_story.specs.declared.progress.Progress.{Progress}
 use Rattle.journal.specs.Log.{Log}
@@ -34,13 +38,13 @@ use Rattle.access_record.specs.declared.entry.Entry.{Entry}
 use Rattle.access_record.specs.declared.entry.LogEntry.{LogEntry}
 use Rattle.access_record.specs.Logs.{log_entry}
 use Rattle.access_record.specs.Passes.{PassOfHart}
-use Rattle.access_record.specs.Buses.{Run, NamesPlace, IsGiven, events_of, waits, engine_of, place_in, Extends, InOrder}
+use Rattle.access_record.specs.Buses.{Run, NamesPlace, IsGiven, events_of, waits, engine_of, Extends, InOrder, HasLooked}
 use Rattle.access_record.proofs.Extending.{events_of-push, extends-places}
 use Rattle.context.specs.declared.wants.Wants.{Wants}
 use Rattle.context.specs.declared.wants.Wants.TheVariants as wants
 use Rattle.context.specs.Obeying.{wants_of, IsFor, moves, ObeysSoFar}
 use Rattle.context.specs.Fewness.{plain_count, IsFew}
-use Rattle.context.specs.Contexts.{Context, context_of, plan_of, layout_of, IsRunOf, events_in, instruction_at, wants_in, IsWanting, IsWantedIn, IsAsking, StandsIn, IsContext, IsOn, Steps, Moves}
+use Rattle.context.specs.Contexts.{Context, context_of, plan_of, layout_of, IsRunOf, events_in, instruction_at, wants_in, IsWanting, IsWantedIn, IsAsking, IsEnding, StandsIn, IsContext, IsOn, Steps, Moves, IsWoken}
 use Rattle.context.proofs.Fewness.{few_access, few_end}
 use Rattle.context.proofs.Obeying.{moves-push, plain_count-push, obeys_event, obeys_handover, obeys_length}
 
@@ -395,3 +399,108 @@ makes_handover c pass log to bank number setup context of wanted_in other gains 
 abbrev pub EndsSo : Context → Progress → Layout → EndPart → Hart → Type 0
 EndsSo c progress layout part hart = (setup : Setup) (i : Instruction) (other : EndPart) (after : State)
     → IsIn setup i c.hart c.progress layout c.settings.budget → story.IsEnding setup i other after → EndsWith setup (story.want_in setup i) part hart
+
+pub ending_in : (c : Context) (setup : Setup) (ending : IsEnding c) → IsRunOf c.entry c.settings setup → IsAtEnd (wanted setup (instruction_at setup c))
+ending_in c setup ending of = needs_finish ending.class (wanted setup (instruction_at setup c)) (ending.ends setup of)
+
+finish_is : (class : Class) (w : Want) (part : EndPart) (after : State) → need.Finish class ≡ need_of w → w ≡ Ends part after → part.class ≡ class
+finish_is class w part after is ends =
+    let told : need.Finish class ≡ need.Finish part.class = is ∙ ap need_of ends in
+    cc
+
+has_ended : (c : Context) (hart : Hart) (progress : Progress) (part : EndPart) (setup : Setup) (layout : Layout) → IsContext c → (ending : IsEnding c)
+    → layout ≡ layout_of c.settings → EndsSo c progress layout part hart → hart.regs.ends ≡ c.hart.regs.ends + 1 → progress ≡ begun
+    → IsRunOf c.entry c.settings setup → HasEnded setup c part hart progress
+has_ended c hart progress part setup layout context ending same so count begins of =
+    let i = instruction_at setup c in
+    let stands = (context.stands setup of).at in
+    let end = ending_in c setup ending of in
+    let made = so setup i end.part end.after (in_run c layout setup context same of) end.ends in
+    let unspent = ends_unspent setup i.state i.replies part made.after made.ends in
+    let at : IsIn setup (instruction_from made.after) hart begun (layout_of c.settings) c.settings.budget = record {
+      of = stands.of;
+      stands = made.stands;
+      fit = made.fit;
+      reached = refl;
+      sound = record { stage = tt; found = are_none begun.found refl };
+    } in
+    record {
+      after = made.after;
+      ends = made.ends;
+      unspent = omega (arith, unspent, stands.fit.within);
+      more = omega (arith, made.stands.regs.ends, stands.stands.regs.ends, count);
+      at = subst (λ (p : Progress). IsIn setup (instruction_from made.after) hart p (layout_of c.settings) c.settings.budget) (sym begins) at;
+    }
+
+pub makes_end : (c : Context) (hart : Hart) (progress : Progress) (pass : PassOfHart) (log : Log) (left : ℕ) (part : EndPart) (bank : Option ℕ) (number : ℕ)
+    (setup : Setup) (layout : Layout) → IsContext c → IsRunOf c.entry c.settings setup → IsEnding c → Gains c pass log (what.End part) bank number
+    → layout ≡ layout_of c.settings → EndsSo c progress layout part hart → hart.regs.ends ≡ c.hart.regs.ends + 1 → progress ≡ begun → left + 1 ≡ c.left
+    → IsContext (next c hart progress pass log c.engine left)
+makes_end c hart progress pass log left part bank number setup layout context of ending gains same so count begins less =
+    let end = ending_in c setup ending of in
+    let ended = has_ended c hart progress part setup layout context ending same so count begins of in
+    let class_is : part.class ≡ ending.class = finish_is ending.class (wanted setup (instruction_at setup c)) part ended.after (ending.ends setup of) ended.ends in
+    let awake = ends-waiting setup c.pass.hart.0 (events_in c) end.part end.after (context.stands setup of).follows end.ends in
+    after_end c hart progress pass log left part bank number context (has_room c setup context of) gains (ap (plan_of c) class_is ∙ ending.class_is) awake less count
+    (λ one its. has_ended c hart progress part one layout context ending same so count begins its)
+
+pub steps_end : (setup : Setup) (before after : Option ℕ) (c : Context) (hart : Hart) (progress : Progress) (pass : PassOfHart) (log : Log) (left : ℕ)
+    (part : EndPart) (bank : Option ℕ) (number : ℕ) (layout : Layout) → IsContext c → IsRunOf c.entry c.settings setup → IsEnding c
+    → Gains c pass log (what.End part) bank number → InOrder before number after
+    → layout ≡ layout_of c.settings → EndsSo c progress layout part hart → left + 1 ≡ c.left
+    → Steps setup before after c (next c hart progress pass log c.engine left)
+steps_end setup before after c hart progress pass log left part bank number layout context of ending gains order same so less =
+    let end = ending_in c setup ending of in
+    let made = so setup (instruction_at setup c) end.part end.after (in_run c layout setup context same of) end.ends in
+    record {
+      happened = what.End part;
+      adds = record { bank = bank; number = number; noted = gains.extends; order = order };
+      may = (made.after, made.ends);
+      plain = refl;
+      engine = refl;
+      left = less;
+    }
+
+-- A pulse of a parked hart.
+
+pub makes_pulse : (c : Context) (progress : Progress) (pass : PassOfHart) (log : Log) (reply : Reply) (bank : Option ℕ) (number : ℕ)
+    (setup : Setup) (layout : Layout) → IsContext c → IsRunOf c.entry c.settings setup → IsWanting c wants.Parked → HasForm (acc.Pulse false) reply
+    → reply.value ≡ 0 → Gains c pass log (what.Acc (acc.Pulse false) reply) bank number → layout ≡ layout_of c.settings
+    → GoesOn c progress layout (acc.Pulse false) reply → IsContext (next c c.hart progress pass log c.engine c.left)
+makes_pulse c progress pass log reply bank number setup layout context of parked form value gains same on =
+    after_access c progress pass log (acc.Pulse false) reply bank number context (has_room c setup context of) gains form
+    (context.told (is_waiting_in c setup context of parked)).1
+    (λ one its.
+    let In : Layout → Type 0 = λ l. IsIn one (record (instruction_at one c) { replies = (instruction_at one c).replies ++ reply ∷ [] }) c.hart progress l c.settings.budget in
+    subst In same (on one (instruction_at one c) (acc.Pulse false) (in_run c layout one context same its) (parked_asked _ (is_parked c one its parked))))
+    (λ one its. ap next_access (is_parked c one its parked)) (λ one its is. value) (λ w. refl)
+
+pub is_woken : (before after : Option ℕ) (c k : Context) (progress : Progress) (pass : PassOfHart) (log : Log) (reply : Reply) (bank : Option ℕ) (number : ℕ)
+    → c ≡ k → HasForm (acc.Pulse false) reply → reply.value ≡ 0 → Gains c pass log (what.Acc (acc.Pulse false) reply) bank number → InOrder before number after
+    → IsWoken before after k (next c c.hart progress pass log c.engine c.left)
+is_woken before after c k progress pass log reply bank number is form value gains order =
+    let woken : IsWoken before after c (next c c.hart progress pass log c.engine c.left) = record {
+      reply = reply;
+      adds = record { bank = bank; number = number; noted = gains.extends; order = order };
+      form = form;
+      value = value;
+      engine = refl;
+      left = refl;
+    } in
+    subst (λ (x : Context). IsWoken before after x (next c c.hart progress pass log c.engine c.left)) is woken
+
+-- a look changes nothing that a context keeps
+pub looks_keep : (c : Context) (pass : PassOfHart) → IsContext c → HasLooked c.pass pass → IsContext (next c c.hart c.progress pass c.log c.engine c.left)
+looks_keep c pass context looked =
+    let with : HartId × List LogEntry → Context = λ p. next c c.hart c.progress (record pass { hart = p.0; log = p.1 }) c.log c.engine c.left in
+    let before : IsContext (with (c.pass.hart, c.pass.log)) = record {
+      whole = context.whole;
+      room = context.room;
+      below = context.below;
+      stands = λ setup of.
+          let s = context.stands setup of in
+          record { follows = s.follows; at = s.at; obeys = s.obeys; few = s.few };
+      told = context.told;
+      round = context.round;
+    } in
+    subst (λ (p : HartId × List LogEntry). IsContext (with p)) (λ i. (sym looked.hart i, sym looked.log i)) before
