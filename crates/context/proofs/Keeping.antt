@@ -26,9 +26,10 @@ use Rattle.flex_base.proofs.Following.{leads_to-push, follows_push, is_waiting-p
 use Rattle.flex_base.proofs.ParkedStories.{asks-waiting, ends-waiting, parked-waiting}
 use Rattle.hart_story.specs.Progress.{IsIn, begun, EndsWith}
 use Rattle.hart_story.specs.Progress as story
-use Rattle.hart_story.proofs.Needing.{wants_asked, parked_asked, IsAtEnd, needs_finish}
+use Rattle.hart_story.proofs.Needing.{wants_asked, parked_asked, IsAtEnd, needs_ask, needs_finish}
 use Rattle.hart_story.proofs.Seeing.{are_none}
-use Rattle.hart_story.specs.Need.{need_of}
+use Rattle.hart_story.specs.Need.{need_of, AsksPlaced}
+use Rattle.hart_story.specs.declared.progress.Need.{Need}
 use Rattle.hart_story.specs.declared.progress.Need.TheVariants as need
 use Rattle.flex_base.proofs.Stories.{ends_unspent}
 use Rattle.hart_story.specs.declared.hart.Hart.{Hart}
@@ -504,3 +505,41 @@ looks_keep c pass context looked =
       round = context.round;
     } in
     subst (λ (p : HartId × List LogEntry). IsContext (with p)) (λ i. (sym looked.hart i, sym looked.log i)) before
+
+-- What is needed.
+
+pub asking_by : (c : Context) (n : Need) (access : Access) (class : Class) → n ≡ need.Ask access class
+    → ((setup : Setup) → IsRunOf c.entry c.settings setup → n ≡ need_of (wanted setup (instruction_at setup c)))
+    → ((setup : Setup) → IsRunOf c.entry c.settings setup → AsksPlaced setup n) → IsWantedIn c c.engine → IsAsking c access
+asking_by c n access class is told placed w =
+    let asks : (setup : Setup) → IsRunOf c.entry c.settings setup → wanted setup (instruction_at setup c) ≡ Asks access =
+    λ setup of. needs_ask access class (wanted setup (instruction_at setup c)) (sym is ∙ told setup of) in
+    let its : w.0 ≡ wants.Ask (class_of_access access) = sym (w.1 (some_setup c) (some_run c)) ∙ ap wants_of (asks (some_setup c) (some_run c)) in
+    record {
+      asks = asks;
+      placed = λ setup of. subst (AsksPlaced setup) is (placed setup of);
+      class_is = subst (λ (x : Wants). IsFor (plan_of c) x c.engine) its w.2;
+    }
+
+pub ending_by : (c : Context) (n : Need) (class : Class) → n ≡ need.Finish class
+    → ((setup : Setup) → IsRunOf c.entry c.settings setup → n ≡ need_of (wanted setup (instruction_at setup c))) → IsWantedIn c c.engine → IsEnding c
+ending_by c n class is told w =
+    let ends : (setup : Setup) → IsRunOf c.entry c.settings setup → need.Finish class ≡ need_of (wanted setup (instruction_at setup c)) =
+    λ setup of. sym is ∙ told setup of in
+    let end = needs_finish class (wanted (some_setup c) (instruction_at (some_setup c) c)) (ends (some_setup c) (some_run c)) in
+    let class_is = finish_is class (wanted (some_setup c) (instruction_at (some_setup c) c)) end.part end.after (ends (some_setup c) (some_run c)) end.ends in
+    let its : w.0 ≡ wants.Finish class = sym (w.1 (some_setup c) (some_run c)) ∙ ap wants_of end.ends ∙ ap (λ k. wants.Finish k) class_is in
+    record { class = class; ends = ends; class_is = subst (λ (x : Wants). IsFor (plan_of c) x c.engine) its w.2 }
+
+-- who is parked or over wants no event
+no_event : (plan : Class → Engine) (engine : Engine) (w : Wants) (n : Need) (x : Want) → wants_of x ≡ w → n ≡ need_of x → IsFor plan w engine
+    → n ≢ need.Parked × n ≢ need.Over
+no_event plan engine w n (Asks access) is told for_it = (λ e. let no : need.Ask access (class_of_access access) ≡ need.Parked = sym told ∙ e in cc, λ e. let no : need.Ask access (class_of_access access) ≡ need.Over = sym told ∙ e in cc)
+no_event plan engine w n (Ends part after) is told for_it = (λ e. let no : need.Finish part.class ≡ need.Parked = sym told ∙ e in cc, λ e. let no : need.Finish part.class ≡ need.Over = sym told ∙ e in cc)
+no_event plan engine w n IsOver is told for_it = absurd (subst (λ (x : Wants). IsFor plan x engine) (sym is) for_it)
+no_event plan engine w n IsParked is told for_it = absurd (subst (λ (x : Wants). IsFor plan x engine) (sym is) for_it)
+
+pub needs_event : (c : Context) (n : Need) → ((setup : Setup) → IsRunOf c.entry c.settings setup → n ≡ need_of (wanted setup (instruction_at setup c)))
+    → IsWantedIn c c.engine → n ≢ need.Parked × n ≢ need.Over
+needs_event c n told w =
+    no_event (plan_of c) c.engine w.0 n (wanted (some_setup c) (instruction_at (some_setup c) c)) (w.1 (some_setup c) (some_run c)) (told (some_setup c) (some_run c)) w.2

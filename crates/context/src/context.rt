@@ -72,16 +72,19 @@ impl HartContext {
         ensures context { result ≡ new_context hart pass log plan settings.now }
         ensures entry { (image : Loaded) → StandsFor hart (start pass.hart.0 image.entry) → result.entry ≡ image.entry }
     {
+        let entry = hart.regs.pc;
+        let engine = plan.engine_for(Class::Fetch);
+        let pass = HeldPass::new(pass);
         HartContext {
-            entry: hart.regs.pc,
-            left: settings.budget + 1,
-            engine: plan.engine_for(Class::Fetch),
             hart,
             progress: Progress::begin(),
-            pass: HeldPass::new(pass),
+            pass,
             log,
+            entry,
+            left: settings.budget + 1,
             settings: *settings,
             plan,
+            engine,
         }
     }
 

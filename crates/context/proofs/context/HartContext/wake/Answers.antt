@@ -1,5 +1,5 @@
 -- A parked hart makes its pulse, or has looked.
-use Rattle.std.proofs.Common.{◌≡◌, true, Some, refl, sym, subst}
+use Rattle.std.proofs.Common.{◌≡◌, true, false, Some, refl, sym, subst}
 use Rattle.flex_base.specs.declared.access.Access.TheVariants as acc
 use Rattle.hart_story.proofs.Needing.{parked_asked}
 use Rattle.context.specs.declared.wants.Wants.TheVariants as wants
@@ -27,3 +27,44 @@ wake-requires-clause-engine g c =
 
 pub invariant_of-self-in-None : goal.invariant_of-self-in-None
 invariant_of-self-in-None g c = looks_keep _ _ c.self.invariant c.in-None.ensures.looked
+
+pub give-requires : goal.give-requires
+give-requires g c =
+    let On : Context → Type 0 = λ k. IsOn (g.B.Bus.run c.args.bus.now) k in
+    let Parked : Context → Type 0 = λ k. IsWanting k wants.Parked in
+    let of = (subst On (sym c.self.view_is) c.requires.on).setup in
+    let parked = subst Parked (sym c.self.view_is) c.requires.parked in
+    (
+      _,
+      _,
+      acc.Pulse false,
+      in_run _ _ _ c.self.invariant c.layout_of-layout.ensures of,
+      parked_asked _ (is_parked _ _ of parked),
+      c.in-Some.ensures.form,
+    )
+
+pub push_access-requires : goal.push_access-requires
+push_access-requires g c =
+    let On : Context → Type 0 = λ k. IsOn (g.B.Bus.run c.args.bus.now) k in
+    has_room _ _ c.self.invariant (subst On (sym c.self.view_is) c.requires.on).setup
+
+pub invariant_of-self : goal.invariant_of-self
+invariant_of-self g c =
+    let On : Context → Type 0 = λ k. IsOn (g.B.Bus.run c.args.bus.now) k in
+    let Parked : Context → Type 0 = λ k. IsWanting k wants.Parked in
+    let of = (subst On (sym c.self.view_is) c.requires.on).setup in
+    let parked = subst Parked (sym c.self.view_is) c.requires.parked in
+    let gains = gained _ _ _ _ _ _ _ c.in-Some.ensures.woken c.hart.ensures c.push_access.ensures in
+    makes_pulse _ _ _ _ c.in-Some.reply _ _ _ _ c.self.invariant of parked c.in-Some.ensures.form c.in-Some.ensures.value gains
+    c.layout_of-layout.ensures c.give.ensures.reached
+
+pub returns-in-Some-clause-one : goal.returns-in-Some-clause-one
+returns-in-Some-clause-one g c =
+    let gains = gained _ _ _ _ _ _ _ c.in-Some.ensures.woken c.hart.ensures c.push_access.ensures in
+    is_woken _ _ _ _ c.give.new.progress _ _ c.in-Some.reply _ _ c.self.view_is c.in-Some.ensures.form c.in-Some.ensures.value gains c.in-Some.ensures.order
+
+pub returns-in-Some-clause-on : goal.returns-in-Some-clause-on
+returns-in-Some-clause-on g c =
+    let On : Context → Type 0 = λ k. IsOn (g.B.Bus.run c.args.bus.now) k in
+    let gains = gained _ _ _ _ _ _ _ c.in-Some.ensures.woken c.hart.ensures c.push_access.ensures in
+    on_run _ _ c.give.new.progress _ _ _ _ _ _ _ c.self.invariant gains _ (subst On (sym c.self.view_is) c.requires.on) refl
