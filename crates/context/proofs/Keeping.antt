@@ -121,6 +121,10 @@ pub is_waiting_in : (c : Context) (setup : Setup) → IsContext c → IsRunOf c.
 is_waiting_in c setup context of w =
     parked-waiting setup c.pass.hart.0 (events_in c) (context.stands setup of).follows (is_parked c setup of w)
 
+pub parked_asks : (c : Context) (setup : Setup) → IsContext c → IsRunOf c.entry c.settings setup → IsWanting c wants.Parked
+    → story.IsAsking setup (instruction_at setup c) (acc.Pulse false)
+parked_asks c setup context of w = parked_asked _ (is_parked c setup of w)
+
 -- One event more.
 
 abbrev pub next : Context → Hart → Progress → PassOfHart → Log → Engine → ℕ → Context

@@ -1,10 +1,9 @@
 -- A parked hart makes its pulse, or has looked.
 use Rattle.std.proofs.Common.{◌≡◌, true, false, Some, refl, sym, subst}
 use Rattle.flex_base.specs.declared.access.Access.TheVariants as acc
-use Rattle.hart_story.proofs.Needing.{parked_asked}
 use Rattle.context.specs.declared.wants.Wants.TheVariants as wants
 use Rattle.context.specs.Contexts.{Context, IsWanting, IsOn}
-use Rattle.context.proofs.Keeping.{in_run, has_room, is_given, gained, is_parked, is_waiting_in, makes_pulse, is_woken, looks_keep, on_run}
+use Rattle.context.proofs.Keeping.{in_run, has_room, is_given, gained, parked_asks, is_waiting_in, makes_pulse, is_woken, looks_keep, on_run}
 use Rattle.context.proofs.context.HartContext.wake.Goals as goal
 
 pub wake-requires-clause-given : goal.wake-requires-clause-given
@@ -39,7 +38,7 @@ give-requires g c =
       _,
       acc.Pulse false,
       in_run _ _ _ c.self.invariant c.layout_of-layout.ensures of,
-      parked_asked _ (is_parked _ _ of parked),
+      parked_asks _ _ c.self.invariant of parked,
       c.in-Some.ensures.form,
     )
 
