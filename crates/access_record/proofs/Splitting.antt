@@ -130,8 +130,8 @@ splits_banks limits id v = splits limits id v (without_banks v) (banks_alone v)
     (λ h. omega arith)
     (omega arith)
 
--- the first hart and the first bank share what they have seen: each has its log still, and has seen no more than is
--- counted
+-- where the first hart and the first bank share what they have seen, each has its log still, and has seen no more than
+-- is counted
 shares : (n : ℕ) (logs bank_logs : ℕ → List LogEntry) (ps : List HartView) (ds : List BankView)
     → HaveLogs hart_number hart_log logs ps → HaveLogs bank_number bank_log bank_logs ds → HaveSeen hart_seen n ps
     → HaveSeen bank_seen n ds
@@ -151,6 +151,7 @@ count_of-shared k [] (d ∷ ds) = (refl, refl)
 count_of-shared k (p ∷ ps) [] = (refl, refl)
 count_of-shared k (p ∷ ps) (d ∷ ds) = (refl, refl)
 
+-- the banks' logs go to a new seat, and the first hart and the first bank share what they have seen
 pub splits_banks_shared : (limits : Limits) (id : ℕ) (v : View)
     → Splits (MeetsRule limits) id v (without_banks_shared v) (banks_alone_shared v)
 splits_banks_shared limits id v = splits limits id v (without_banks_shared v) (banks_alone_shared v)

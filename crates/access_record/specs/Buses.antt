@@ -17,11 +17,10 @@ use Rattle.access_record.specs.declared.entry.LogEntry.{LogEntry}
 use Rattle.access_record.specs.Logs.{Ascends, log_entry}
 use Rattle.access_record.specs.Passes.{RecordIdentity, PassOfHart}
 
--- what a bus is of: its record, the image and settings, and the input of the console
+-- what a bus is of: its record; and the image, the settings and the console's input
 pub record Run : Type 0 where
   pub book : RecordIdentity
   pub setup : Setup
-  pub input : List ℕ
 
 -- how many banks RAM has; the devices are the bank of this number
 abbrev pub ram_banks : Run → ℕ

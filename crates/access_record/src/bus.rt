@@ -16,7 +16,7 @@ pub trait Bus {
     ghost use Rattle.std.specs.Prelude.{ℕ, Option};
     ghost use Rattle.access_record.specs.Buses.{Run};
 
-    /// The record, the image and settings, and the console input that the bus is of.
+    /// The record that the bus is of, and the image, the settings and the console input.
     ghost run: { Self → Run };
 
     /// The numbers of a bus of one thread rise: each that it will give is at least this. A bus that

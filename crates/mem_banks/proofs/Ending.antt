@@ -11,7 +11,7 @@ use Rattle.access_record.specs.declared.entry.LogEntry.{LogEntry}
 use Rattle.access_record.specs.Rule.{one_if, count_of, occurrences}
 use Rattle.access_record.specs.Passes.{RecordIdentity, PassOfBank, Enrolment, EachHasBankPass, bank_logs_of}
 use Rattle.access_record.specs.Buses.{Run, ram_banks}
-use Rattle.mem_banks.specs.Slots.{pass_of, log_in, HasPass}
+use Rattle.mem_banks.specs.Slots.{pass_of, log_in, seen_in, HasPass}
 use Rattle.mem_banks.specs.Kept.{IsBankOf, AreDevicesOf}
 use Rattle.mem_banks.specs.Plain.{IsPlain, numbers_below}
 use Rattle.mem_banks.specs.End.{Memory, IsMemoryOf, pass_in, passes_down, AreHeld}
@@ -49,7 +49,7 @@ take_step slots fewer room all m n p one is here whole =
     ∙ ap (λ (k : ℕ). room ++ passes_down slots k) (sym one) ∙ whole
 
 module _ (book : RecordIdentity) (slots : List (Option PassOfBank)) (have : HavePasses book slots) where
-  pass_is : (k : ℕ) → k < length slots → pass_in (slice_index_or slots k None) ≡ pass_of book k (log_in (slice_index_or slots k None))
+  pass_is : (k : ℕ) → k < length slots → pass_in (slice_index_or slots k None) ≡ pass_of book k (log_in (slice_index_or slots k None)) (seen_in (slice_index_or slots k None))
   pass_is k below = ap pass_in (have k None below)
 
   bank_is : (k : ℕ) → k < length slots → (pass_in (slice_index_or slots k None)).bank ≡ k

@@ -61,9 +61,9 @@ lines_push run bank old new log hart engine access reply number kept ram here is
         bank_is = same.bank_is ∙ kept.is_bank.bank_is;
       };
       replay = subst (λ (m : List Done). lines.IsReplay run.setup m new) (sym (more_accesses log hart engine access reply bank number)) replay;
-      banked = subst (λ (es : List Event). IsBanked run.setup run.input (ram_banks run) bank es) (sym (events_of-push log e))
-          (banked_push run.setup run.input (ram_banks run) bank (events_of log) e.event kept.banked
-          (record { here = here; reply_is = is ∙ sym (ap (λ r. if r then flat run.setup.image made hart.0 access else reply_after run.setup.harts run.input made hart.0 access) ram); proper = proper }));
+      banked = subst (λ (es : List Event). IsBanked run.setup (ram_banks run) bank es) (sym (events_of-push log e))
+          (banked_push run.setup (ram_banks run) bank (events_of log) e.event kept.banked
+          (record { here = here; reply_is = is ∙ sym (ap (λ r. if r then flat run.setup.image made hart.0 access else reply_after run.setup.harts run.setup.input made hart.0 access) ram); proper = proper }));
     }
   where
     proper_ram : (a : Access) → is_ram_access a ≡ true → IsProper run.setup.harts (accesses_of (events_of log)) hart.0 a
@@ -78,9 +78,9 @@ of_harts_push harts (x ∷ log) e own below = (own.0, of_harts_push harts log e 
 
 pub devices_push : (run : Run) (old new : devices.DevicesView) (log : List LogEntry) (hart : HartId) (engine : Engine) (access : Access) (reply : Reply) (number : ℕ)
     → AreDevicesOf run old log → hart.0 < run.setup.harts → is_ram_access access ≡ false
-    → reply ≡ reply_after run.setup.harts run.input (accesses_of (events_of log)) hart.0 access
+    → reply ≡ reply_after run.setup.harts run.setup.input (accesses_of (events_of log)) hart.0 access
     → IsProper run.setup.harts (accesses_of (events_of log)) hart.0 access
-    → devices.IsReplay run.setup.harts run.input (with_access (accesses_of (events_of log)) hart.0 access reply) new
+    → devices.IsReplay run.setup.harts run.setup.input (with_access (accesses_of (events_of log)) hart.0 access reply) new
     → (is_transmit access ≡ true → bytes_sent (of_hart hart.0 log) < run.setup.budget)
     → devices.IsSame old new
     → AreDevicesOf run new (log ++ entry_of hart engine access reply (ram_banks run) number ∷ [])
@@ -89,17 +89,17 @@ devices_push run old new log hart engine access reply number kept below device i
     let dev = ram_banks run in
     let e = entry_of hart engine access reply dev number in
     record {
-      replay = subst (λ (m : List Done). devices.IsReplay run.setup.harts run.input m new) (sym (more_accesses log hart engine access reply dev number)) replay;
-      banked = subst (λ (es : List Event). IsBanked run.setup run.input dev dev es) (sym (events_of-push log e))
-          (banked_push run.setup run.input dev dev (events_of log) e.event kept.banked
+      replay = subst (λ (m : List Done). devices.IsReplay run.setup.harts run.setup.input m new) (sym (more_accesses log hart engine access reply dev number)) replay;
+      banked = subst (λ (es : List Event). IsBanked run.setup dev dev es) (sym (events_of-push log e))
+          (banked_push run.setup dev dev (events_of log) e.event kept.banked
           (record {
             here = ap (λ r. if r then bank_of dev (address_of access) else dev) device;
-            reply_is = is ∙ sym (ap (λ r. if r then flat run.setup.image made hart.0 access else reply_after run.setup.harts run.input made hart.0 access) device);
+            reply_is = is ∙ sym (ap (λ r. if r then flat run.setup.image made hart.0 access else reply_after run.setup.harts run.setup.input made hart.0 access) device);
             proper = proper;
           }));
       harts = of_harts_push run.setup.harts log e kept.harts below;
       bytes = bytes-push run.setup.budget log hart engine access reply dev number kept.bytes room;
-      waiting = waiting-push run.setup.harts run.input log hart engine access reply dev number kept.waiting is;
+      waiting = waiting-push run.setup.harts run.setup.input log hart engine access reply dev number kept.waiting is;
       room = same.room ∙ kept.room;
       keeps = same.keeps ∙ kept.keeps;
     }
@@ -120,7 +120,7 @@ pub room_at : (run : Run) (d : devices.DevicesView) (own log : List LogEntry) (h
     → on_bank (ram_banks run) own ≡ of_hart hart log → (is_transmit access ≡ true → bytes_sent own < run.setup.budget) → devices.HasRoom d access
 room_at run d own log hart access kept below agree console = may_act d access (λ sends.
     let less = some_room run.setup.harts run.setup.budget hart log kept.harts kept.bytes below (own_bytes (ram_banks run) hart run.setup.budget own log agree (console sends)) in
-    has_room-sent run.setup.harts run.input (accesses_of (events_of log)) d kept.replay (subst (λ (n : ℕ). length (sent_bytes (accesses_of (events_of log))) < n) (sym kept.room) less))
+    has_room-sent run.setup.harts run.setup.input (accesses_of (events_of log)) d kept.replay (subst (λ (n : ℕ). length (sent_bytes (accesses_of (events_of log))) < n) (sym kept.room) less))
 
 -- the devices know of a hart that it waits where its own log tells so
 pub waits_at : (run : Run) (d : devices.DevicesView) (pass : PassOfHart) (log : List LogEntry) → AreDevicesOf run d log → NamePlaces run pass.log

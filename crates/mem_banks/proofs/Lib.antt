@@ -2,5 +2,6 @@ pub mod Bytes
 pub mod Waiting
 pub mod Keeping
 pub mod Plains
+pub mod Seen
 pub mod Ending
 pub mod Trying

@@ -26,7 +26,7 @@ use Rattle.access_record.specs.Rule.{one_if, occurrences}
 use Rattle.access_record.specs.Passes.{RecordIdentity, PassOfBank}
 use Rattle.access_record.specs.Buses.{Run, ram_banks, place_in, events_of, bytes_sent}
 use Rattle.access_record.specs.declared.entry.LogEntry.{LogEntry}
-use Rattle.mem_banks.specs.Slots.{pass_of, log_in, HasPass}
+use Rattle.mem_banks.specs.Slots.{pass_of, log_in, seen_in, HasPass}
 use Rattle.mem_banks.specs.Kept.{IsBankOf, IsBankAt, AreDevicesOf, AreDevicesAt}
 use Rattle.mem_banks.proofs.Bytes.{of_hart-none}
 use Rattle.mem_banks.specs.Plain.{IsPlain, numbers_below, new_slots, IsOfImage, AreMade}
@@ -108,14 +108,14 @@ none_above k (suc n) below =
 pub numbers_more : (n : ℕ) → numbers_below (n + 1) ≡ n ∷ numbers_below n
 numbers_more n = let e : n + 1 ≡ suc n = omega arith in ap numbers_below e
 
-pub new_slots-more : (book : RecordIdentity) (n : ℕ) → new_slots book (n + 1) ≡ new_slots book n ++ Some (pass_of book n []) ∷ []
-new_slots-more book n = let e : 0 + n ≡ n = omega arith in map-range_with_len_more (λ bank. Some (pass_of book bank [])) 0 n n e
+pub new_slots-more : (book : RecordIdentity) (n : ℕ) → new_slots book (n + 1) ≡ new_slots book n ++ Some (pass_of book n [] 0) ∷ []
+new_slots-more book n = let e : 0 + n ≡ n = omega arith in map-range_with_len_more (λ bank. Some (pass_of book bank [] 0)) 0 n n e
 
 pub length-new_slots : (book : RecordIdentity) (n : ℕ) → length (new_slots book n) ≡ n
-length-new_slots book n = length-map-range_with_len (λ bank. Some (pass_of book bank [])) 0 n
+length-new_slots book n = length-map-range_with_len (λ bank. Some (pass_of book bank [] 0)) 0 n
 
-pub new_slot : (book : RecordIdentity) (n k : ℕ) (other : Option PassOfBank) → k < n → slice_index_or (new_slots book n) k other ≡ Some (pass_of book k [])
-new_slot book n k other below = let e : 0 + k ≡ k = omega arith in get_or-map-range_with_len (λ bank. Some (pass_of book bank [])) 0 n k k other below e
+pub new_slot : (book : RecordIdentity) (n k : ℕ) (other : Option PassOfBank) → k < n → slice_index_or (new_slots book n) k other ≡ Some (pass_of book k [] 0)
+new_slot book n k other below = let e : 0 + k ≡ k = omega arith in get_or-map-range_with_len (λ bank. Some (pass_of book bank [] 0)) 0 n k k other below e
 
 -- one bank more of an image
 pub made_push : (image : Loaded) (settings : Settings) (banks : ℕ) (lines more : List Bank) (x : Bank) → AreMade image settings banks lines
@@ -144,19 +144,19 @@ some_bank : (banks : ℕ) → is_bank_count banks ≡ true → 0 < banks
 some_bank zero is = absurd (cc is)
 some_bank (suc n) is = omega arith
 
-new_pass : (book : RecordIdentity) (bank : ℕ) (slot : Option PassOfBank) → slot ≡ Some (pass_of book bank []) → HasPass book bank slot
-new_pass book bank slot is = is ∙ ap (λ l. Some (pass_of book bank l)) (sym (ap log_in is))
+new_pass : (book : RecordIdentity) (bank : ℕ) (slot : Option PassOfBank) → slot ≡ Some (pass_of book bank [] 0) → HasPass book bank slot
+new_pass book bank slot is = is ∙ ap (λ (x : List LogEntry × ℕ). Some (pass_of book bank x.0 x.1)) (λ i. (sym (ap log_in is) i, sym (ap seen_in is) i))
 
 pub plain-begins : (run : Run) (settings : Settings) (image : Loaded) (banks : ℕ) (lines : List Bank) (d : DevicesView) (slots : List (Option PassOfBank))
     → IsOfImage image settings run.setup → run.setup.harts ≡ settings.harts → run.setup.budget ≡ settings.budget → run.book.limits.banks ≡ banks + 1
     → is_lawful settings ≡ true → is_bank_count banks ≡ true → settings.harts * settings.budget ≤ 262144
     → length lines ≡ banks → AreMade image settings banks lines
-    → devices.IsReplay run.setup.harts run.input [] d → d.console.room ≡ room_for settings.harts settings.budget → d.console.keeps ≡ true
+    → devices.IsReplay run.setup.harts run.setup.input [] d → d.console.room ≡ room_for settings.harts settings.budget → d.console.keeps ≡ true
     → slots ≡ new_slots run.book (banks + 1) → IsPlain run lines d slots
 plain-begins run settings image banks lines d slots of_image harts budget count lawful counted few all made replay room keeps slots_are =
     let some = some_bank banks counted in
     let ram : ram_banks run ≡ banks = omega (arith, count) in
-    let slot_is : (k : ℕ) (slot : Option PassOfBank) → k < banks + 1 → slice_index_or slots k slot ≡ Some (pass_of run.book k []) =
+    let slot_is : (k : ℕ) (slot : Option PassOfBank) → k < banks + 1 → slice_index_or slots k slot ≡ Some (pass_of run.book k [] 0) =
     λ k slot below. ap (λ (l : List (Option PassOfBank)). slice_index_or l k slot) slots_are ∙ new_slot run.book (banks + 1) k slot below in
     record {
       run_is = record { some = omega (arith, count); few = let f = few_harts settings lawful in omega (arith, harts, f) };
@@ -176,8 +176,8 @@ plain-begins run settings image banks lines d slots of_image harts budget count 
           };
       devices = λ slot.
           let at : length lines ≡ ram_banks run = all ∙ sym ram in
-          let is : slice_index_or slots (length lines) slot ≡ Some (pass_of run.book (ram_banks run) []) =
-          slot_is (length lines) slot (omega (arith, all)) ∙ ap (λ (k : ℕ). Some (pass_of run.book k [])) at in
+          let is : slice_index_or slots (length lines) slot ≡ Some (pass_of run.book (ram_banks run) [] 0) =
+          slot_is (length lines) slot (omega (arith, all)) ∙ ap (λ (k : ℕ). Some (pass_of run.book k [] 0)) at in
           record {
             pass = new_pass run.book (ram_banks run) (slice_index_or slots (length lines) slot) is;
             devices = subst (λ (log : List LogEntry). AreDevicesOf run d log) (sym (ap log_in is)) (record {

@@ -16,7 +16,8 @@ use Rattle.flex_base.specs.declared.event.What.{What}
 use Rattle.flex_base.specs.declared.event.What.TheVariants as what
 use Rattle.flex_base.proofs.Following.{is_waiting-push}
 use Rattle.flex_base.proofs.Banks.{accesses_of-push}
-use Rattle.flex_base.proofs.WaitingHarts.{waits_in, waits-step-own, waits-step-other, runs-unwoken, devices-push}
+use Rattle.flex_base.proofs.WaitingHarts.{waits_in, waits-step-own, waits-step-other, runs-unwoken}
+use Rattle.flex_base.proofs.Standing.{devices_push}
 use Rattle.access_record.specs.declared.entry.LogEntry.{LogEntry}
 use Rattle.access_record.specs.Logs.{is_bank, names_bank, on_bank, of_hart}
 use Rattle.access_record.specs.Buses.{Run, ram_banks, events_of, NamesPlace, NamePlaces}
@@ -74,11 +75,8 @@ waiting-push harts input log hart engine access reply bank number agree is h = b
     made : List Done
     made = accesses_of (events_of log)
 
-    d : Done
-    d = record { hart = hart.0; access = access; reply = reply }
-
     after : devices harts (accesses_of (events_of (log ++ entry_of hart engine access reply bank number ∷ []))) ≡ device_step (devices harts (accesses_of (events_of log))) hart.0 access
-    after = ap (devices harts) (ap accesses_of (events_of-push log e) ∙ accesses_of-push (events_of log) e.event) ∙ devices-push harts (accesses_of (events_of log)) d
+    after = ap (devices harts) (ap accesses_of (events_of-push log e) ∙ accesses_of-push (events_of log) e.event) ∙ devices_push harts (accesses_of (events_of log)) hart.0 access reply
 
     by : Dec (hart.0 ≡ h) → waits_in (devices harts (accesses_of (events_of (log ++ entry_of hart engine access reply bank number ∷ [])))) h
         ≡ is_waiting (events_of (of_hart h (log ++ entry_of hart engine access reply bank number ∷ [])))

@@ -57,7 +57,7 @@ pub record MaySettle (run : Run) (memory : Memory) (founder : Enrolment) (passes
 
 -- the pass that lies in a slot; where none does, one of no meaning
 abbrev pub pass_in : Option PassOfBank → PassOfBank
-pass_in None = pass_of some_record 0 []
+pass_in None = pass_of some_record 0 [] 0
 pass_in (Some p) = p
 
 -- the passes of the first n slots, the last one first

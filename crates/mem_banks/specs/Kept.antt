@@ -18,7 +18,7 @@ use Rattle.mem_banks.specs.Slots.{log_in, HasPass}
 pub record IsBankOf (run : Run) (bank : ℕ) (b : lines.Bank) (log : List LogEntry) : Type 0 where
   pub is_bank : lines.IsBank run.setup.ram (ram_banks run) bank b
   pub replay : lines.IsReplay run.setup (accesses_of (events_of log)) b
-  pub banked : IsBanked run.setup run.input (ram_banks run) bank (events_of log)
+  pub banked : IsBanked run.setup (ram_banks run) bank (events_of log)
 
 -- each entry is of one of so many harts
 abbrev pub AreOfHarts : ℕ → List LogEntry → Type 0
@@ -28,8 +28,8 @@ AreOfHarts harts (e ∷ log) = (e.event.hart.0 < harts) × AreOfHarts harts log
 -- the devices are the replay of their log. No hart has transmitted more bytes than its budget, and there is room for as many;
 -- a hart waits where it was told so
 pub record AreDevicesOf (run : Run) (d : devices.DevicesView) (log : List LogEntry) : Type 0 where
-  pub replay : devices.IsReplay run.setup.harts run.input (accesses_of (events_of log)) d
-  pub banked : IsBanked run.setup run.input (ram_banks run) (ram_banks run) (events_of log)
+  pub replay : devices.IsReplay run.setup.harts run.setup.input (accesses_of (events_of log)) d
+  pub banked : IsBanked run.setup (ram_banks run) (ram_banks run) (events_of log)
   pub harts : AreOfHarts run.setup.harts log
   pub bytes : (hart : ℕ) → bytes_sent (of_hart hart log) ≤ run.setup.budget
   pub waiting : (hart : ℕ) → still_waits (hart_at (devices run.setup.harts (accesses_of (events_of log))) hart).standing

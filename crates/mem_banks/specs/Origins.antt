@@ -10,8 +10,13 @@ use Rattle.mem_banks.specs.declared.origin.Origin.{Origin}
 abbrev pub run_of : RecordIdentity → Loaded → Settings → List ℕ → Run
 run_of book image settings input = record {
   book = book;
-  setup = record { image = image; harts = settings.harts; ram = settings.ram; budget = settings.budget };
-  input = input;
+  setup = record {
+    image = image;
+    harts = settings.harts;
+    ram = settings.ram;
+    budget = settings.budget;
+    input = input;
+  };
 }
 
 abbrev pub run_from : RecordIdentity → Origin → Run

@@ -1,5 +1,5 @@
 -- A bus of one thread: what it is of, and what its banks and its devices keep.
-use Rattle.std.specs.Prelude.{◌≡◌, ℕ, zero, suc, ◌<◌, List, [], ◌∷◌, map, length, slice_index_or, Option, Some}
+use Rattle.std.specs.Prelude.{◌≡◌, ℕ, ◌+◌, zero, suc, ◌<◌, ◌≤◌, List, [], ◌∷◌, map, length, slice_index_or, Option, None, Some}
 use Rattle.std.specs.List.{range_with_len}
 use Rattle.flex_base.specs.Setup.{Setup}
 use Rattle.flex_base.specs.Loaded.{Loaded}
@@ -9,18 +9,38 @@ use Rattle.devices.specs.View.{DevicesView}
 use Rattle.access_record.specs.declared.entry.LogEntry.{LogEntry}
 use Rattle.access_record.specs.Passes.{RecordIdentity, PassOfBank}
 use Rattle.access_record.specs.Buses.{Run, ram_banks}
-use Rattle.mem_banks.specs.Slots.{pass_of, log_in}
+use Rattle.mem_banks.specs.Slots.{pass_of, log_in, seen_in}
 use Rattle.mem_banks.specs.Kept.{IsRun, IsBankAt, AreDevicesAt}
 
--- the run, the lines of each bank, the devices, and the logs of the banks and, last, of the devices
+-- the run, the lines of each bank, the devices, and the logs of the banks and, last, of the devices; which bank has seen all
+-- numbers so far, and the least one that may come next
 pub record Plain : Type 0 where
   pub run : Run
   pub lines : List Bank
   pub devices : DevicesView
   pub logs : List (List LogEntry)
+  pub newest : ℕ
+  pub order : ℕ
 
-abbrev pub plain_of : Run → List Bank → DevicesView → List (Option PassOfBank) → Plain
-plain_of run lines d slots = record { run = run; lines = lines; devices = d; logs = map log_in slots }
+-- the least number that may come after this last one
+abbrev pub next_number : Option ℕ → ℕ
+next_number None = 0
+next_number (Some number) = number + 1
+
+abbrev pub plain_of : Run → List Bank → DevicesView → List (Option PassOfBank) → ℕ → Option ℕ → Plain
+plain_of run lines d slots newest latest = record {
+  run = run;
+  lines = lines;
+  devices = d;
+  logs = map log_in slots;
+  newest = newest;
+  order = next_number latest;
+}
+
+-- the pass at this place, which is that of a bank of RAM, has seen the numbers below this one
+pub record HasSeen (banks : ℕ) (slots : List (Option PassOfBank)) (newest order : ℕ) : Type 0 where
+  pub bank : newest < banks
+  pub seen : (slot : Option PassOfBank) → order ≤ seen_in (slice_index_or slots newest slot)
 
 -- bank b lies at place b, and its pass too; the pass of the devices comes after those of the banks
 pub record IsPlain (run : Run) (lines : List Bank) (d : DevicesView) (slots : List (Option PassOfBank)) : Type 0 where
@@ -39,7 +59,7 @@ numbers_below (suc n) = n ∷ numbers_below n
 
 -- the passes of so many banks that were just enrolled
 abbrev pub new_slots : RecordIdentity → ℕ → List (Option PassOfBank)
-new_slots book n = map (λ bank. Some (pass_of book bank [])) (range_with_len 0 n)
+new_slots book n = map (λ bank. Some (pass_of book bank [] 0)) (range_with_len 0 n)
 
 -- a setup of this image and these settings
 pub record IsOfImage (image : Loaded) (settings : Settings) (setup : Setup) : Type 0 where

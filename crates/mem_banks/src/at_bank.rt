@@ -1,6 +1,7 @@
-ghost use Rattle.std.specs.Prelude.{◌≡◌, Some};
+ghost use Rattle.std.specs.Prelude.{◌≡◌, ◌+◌, ◌≤◌, Some};
 ghost use Rattle.flex_base.specs.Forms.{HasForm};
 ghost use Rattle.access_record.specs.Buses.{Run, access_entry, Extends};
+ghost use Rattle.mem_banks.specs.Slots.{seen_in};
 ghost use Rattle.mem_banks.specs.Kept.{IsBankAt, MakesAt};
 
 use crate::slots::note_at;
@@ -19,6 +20,8 @@ pub(crate) fn access_bank(
 ) -> (Pass, u64, Reply)
     requires run { (run : Run) × MakesAt run book.now lines.old slot.old pass acc }
     ensures noted { Extends pass result.0 (access_entry engine acc result.2) (Some lines.old.bank) result.1 }
+    ensures seen { (pass.seen ≤ result.1) × (seen_in slot.old ≤ result.1) }
+    ensures after { seen_in slot.new ≡ result.1 + 1 }
     ensures form { HasForm acc result.2 }
     ensures kept { (run : Run) → MakesAt run book.now lines.old slot.old pass acc → IsBankAt run lines.old.bank lines.new slot.new }
 {

@@ -1,4 +1,4 @@
-ghost use Rattle.std.specs.Prelude.{◌≡◌, true, false, Some, IfNone, IfSome};
+ghost use Rattle.std.specs.Prelude.{◌≡◌, ◌+◌, ◌≤◌, true, false, Some, IfNone, IfSome};
 ghost use Rattle.flex_base.specs.Forms.{HasForm};
 ghost use Rattle.access_record.specs.Buses.{Run, access_entry, Extends, HasLooked, waits_unwoken};
 ghost use Rattle.mem_banks.specs.Slots.{bank_in};
@@ -21,6 +21,8 @@ pub(crate) fn access_devices(
 ) -> (Pass, u64, Reply)
     requires run { (run : Run) × MakesAtDevices run book.now devices.old slot.old pass acc }
     ensures noted { Extends pass result.0 (access_entry engine acc result.2) (Some (bank_in slot.old)) result.1 }
+    ensures seen { pass.seen ≤ result.1 }
+    ensures after { result.0.seen ≡ result.1 + 1 }
     ensures form { HasForm acc result.2 }
     ensures kept { (run : Run) → MakesAtDevices run book.now devices.old slot.old pass acc → AreDevicesAt run devices.new slot.new }
 {
@@ -44,6 +46,8 @@ pub(crate) fn wake_at(
 ) -> (Pass, Option<(u64, Reply)>)
     requires run { (run : Run) × MayWake run book.now devices.old slot.old pass }
     ensures woken { IfSome result.1 (λ r. Extends pass result.0 (access_entry engine (Access.Pulse false) r.1) (Some (bank_in slot.old)) r.0) }
+    ensures seen { IfSome result.1 (λ r. pass.seen ≤ r.0) }
+    ensures after { IfSome result.1 (λ r. result.0.seen ≡ r.0 + 1) }
     ensures form { IfSome result.1 (λ r. HasForm (Access.Pulse false) r.1) }
     ensures value { IfSome result.1 (λ r. r.1.value ≡ 0) }
     ensures looked { IfNone result.1 (HasLooked pass result.0) }

@@ -1,11 +1,12 @@
-ghost use Rattle.std.specs.Prelude.{◌≡◌, ℕ, ◌+◌, ◌*◌, ◌<◌, ◌≤◌, true, false, [], Some, IfNone, IfOk, IfSome, vec_len, vec_capacity};
+ghost use Rattle.std.specs.Prelude.{◌≡◌, ℕ, ◌+◌, ◌*◌, ◌<◌, ◌≤◌, ◌⊎◌, true, false, [], Some, IfNone, IfOk, IfSome, vec_len, vec_capacity};
 ghost use Rattle.flex_base.specs.Limits.{is_lawful};
 ghost use Rattle.flex_base.specs.Loaded.{image_fits};
 ghost use Rattle.mem_lines.specs.Bank.{is_bank_count};
 ghost use Rattle.access_record.specs.Rule.{occurrences};
 ghost use Rattle.access_record.specs.Passes.{add_hart, new_pass};
 ghost use Rattle.flex_base.specs.Forms.{HasForm};
-ghost use Rattle.access_record.specs.Buses.{place_in, access_entry, waits, Extends, HasLooked, waits_unwoken};
+ghost use Rattle.flex_base.specs.FlatMemory.{is_ram_access};
+ghost use Rattle.access_record.specs.Buses.{ram_banks, place_in, access_entry, waits, Extends, HasLooked, waits_unwoken};
 ghost use Rattle.mem_banks.specs.Kept.{IsReady, MayMake};
 ghost use Rattle.mem_banks.specs.Origins.{run_of};
 ghost use Rattle.mem_banks.specs.Plain.{numbers_below, new_slots, AreMade};
@@ -16,6 +17,7 @@ use crate::at_devices::{access_devices, wake_at};
 use crate::end_memory::{EndMemory, Unsettled};
 use crate::origin::Origin;
 use crate::places::ram_address;
+use crate::slots::share_at;
 use access_record::{AccessRecord, BankPass, Bus, Entry, Founder, Pass};
 use devices::Devices;
 use flex_base::{Access, Engine, HartId, Image, Reply, Settings};
@@ -34,23 +36,30 @@ pub struct PlainBus {
     // Where they go when the bus is dissolved.
     room: Vec<BankPass>,
     origin: Origin,
+    // The bank whose pass has seen all numbers so far, and the last of them.
+    newest: usize,
+    latest: Snapshot<Option<u64>>,
 }
 
 impl Model for PlainBus {
     ghost use Rattle.std.specs.Prelude.{◌≡◌, ◌≤◌, vec_len, vec_capacity};
+    ghost use Rattle.access_record.specs.Buses.{ram_banks};
     ghost use Rattle.mem_banks.specs.Origins.{run_from};
-    ghost use Rattle.mem_banks.specs.Plain.{Plain, plain_of, IsPlain};
+    ghost use Rattle.mem_banks.specs.Plain.{Plain, plain_of, next_number, IsPlain, HasSeen};
 
     ghost Value = { Plain };
 
-    ghost view = { λ s. plain_of (run_from s.book s.origin) s.lines.items s.devices s.slots.items };
+    ghost view = { λ s. plain_of (run_from s.book s.origin) s.lines.items s.devices s.slots.items s.newest s.latest.value };
 
     ghost invariant = { λ s. IsPlain (run_from s.book s.origin) s.lines.items s.devices s.slots.items
+        × HasSeen (ram_banks (run_from s.book s.origin)) s.slots.items s.newest (next_number s.latest.value)
         × (vec_len s.room ≡ 0) × (s.book.limits.banks ≤ vec_capacity s.room) };
 }
 
 impl Bus for PlainBus {
     ghost run = { λ s. s.run };
+
+    ghost order = { λ s. Some s.order };
 
     fn access(&mut self, pass: Pass, engine: Engine, acc: Access) -> (Pass, u64, Reply) {
         self.make(pass, engine, acc)
@@ -61,7 +70,10 @@ impl Bus for PlainBus {
     }
 
     fn note(&mut self, pass: Pass, entry: Entry) -> (Pass, u64) {
-        self.book.note_own(pass, entry)
+        let pass = self.learn(pass);
+        let (pass, number) = self.book.note_own(pass, entry);
+        let pass = self.tell(pass, number);
+        (pass, number)
     }
 }
 
@@ -119,6 +131,8 @@ impl PlainBus {
             slots,
             room,
             origin,
+            newest: 0,
+            latest: Snapshot::of(&None),
         };
         Ok((bus, founder))
     }
@@ -135,24 +149,94 @@ impl PlainBus {
         self.book.enrol_hart(founder, hart)
     }
 
+    // The pass learns all numbers so far, so that its next one is above them.
+    fn learn(&mut self, pass: Pass) -> Pass
+        requires book { pass.id ≡ self.old.run.book.id }
+        ensures pass { result ≡ record pass { seen = result.seen } }
+        ensures seen { self.old.order ≤ result.seen }
+        ensures same { (self.new.run ≡ self.old.run) × (self.new.newest ≡ self.old.newest) × (self.new.order ≡ self.old.order) }
+    {
+        share_at(&self.book, &mut self.slots[self.newest], pass)
+    }
+
+    // The bus learns the number that the pass was given last.
+    fn tell(&mut self, pass: Pass, number: u64) -> Pass
+        requires book { pass.id ≡ self.old.run.book.id }
+        requires seen { number + 1 ≤ pass.seen }
+        ensures pass { result ≡ record pass { seen = result.seen } }
+        ensures order { self.new.order ≡ number + 1 }
+        ensures same { self.new.run ≡ self.old.run }
+    {
+        let pass = share_at(&self.book, &mut self.slots[self.newest], pass);
+        self.latest = Snapshot::of(&Some(number));
+        pass
+    }
+
     // Makes an access, whether the hart's story asks it or not.
     pub(crate) fn make(&mut self, pass: Pass, engine: Engine, acc: Access) -> (Pass, u64, Reply)
         requires may { MayMake self.old.run pass acc }
         ensures noted { Extends pass result.0 (access_entry engine acc result.2) (Some (place_in self.old.run acc)) result.1 }
+        ensures order { (self.old.order ≤ result.1) × (self.new.order ≡ result.1 + 1) }
         ensures form { HasForm acc result.2 }
         ensures same { self.new.run ≡ self.old.run }
     {
         match ram_address(&acc) {
             Some(address) => {
                 let bank = (address / 64 % self.lines.len() as u64) as usize;
-                let lines = &mut self.lines[bank];
-                access_bank(&self.book, lines, &mut self.slots[bank], pass, engine, acc)
+                let pass = if bank == self.newest {
+                    pass
+                } else {
+                    self.learn(pass)
+                };
+                self.make_at(bank, pass, engine, acc)
             }
             None => {
-                let slot = &mut self.slots[self.lines.len()];
-                access_devices(&self.book, &mut self.devices, slot, pass, engine, acc)
+                let pass = self.learn(pass);
+                let (pass, number, reply) = self.make_at_devices(pass, engine, acc);
+                let pass = self.tell(pass, number);
+                (pass, number, reply)
             }
         }
+    }
+
+    // Makes an access of this bank. Its pass, or that of the hart, has seen all numbers so far.
+    fn make_at(
+        &mut self,
+        bank: usize,
+        pass: Pass,
+        engine: Engine,
+        acc: Access,
+    ) -> (Pass, u64, Reply)
+        requires may { MayMake self.old.run pass acc }
+        requires ram { is_ram_access acc ≡ true }
+        requires here { place_in self.old.run acc ≡ bank }
+        requires below { bank < ram_banks self.old.run }
+        requires seen { (bank ≡ self.old.newest) ⊎ (self.old.order ≤ pass.seen) }
+        ensures noted { Extends pass result.0 (access_entry engine acc result.2) (Some (place_in self.old.run acc)) result.1 }
+        ensures order { (self.old.order ≤ result.1) × (self.new.order ≡ result.1 + 1) }
+        ensures form { HasForm acc result.2 }
+        ensures same { self.new.run ≡ self.old.run }
+    {
+        let lines = &mut self.lines[bank];
+        let slot = &mut self.slots[bank];
+        let (pass, number, reply) = access_bank(&self.book, lines, slot, pass, engine, acc);
+        self.newest = bank;
+        self.latest = Snapshot::of(&Some(number));
+        (pass, number, reply)
+    }
+
+    // Makes an access of the devices.
+    fn make_at_devices(&mut self, pass: Pass, engine: Engine, acc: Access) -> (Pass, u64, Reply)
+        requires may { MayMake self.old.run pass acc }
+        requires device { is_ram_access acc ≡ false }
+        ensures noted { Extends pass result.0 (access_entry engine acc result.2) (Some (place_in self.old.run acc)) result.1 }
+        ensures seen { pass.seen ≤ result.1 }
+        ensures after { result.0.seen ≡ result.1 + 1 }
+        ensures form { HasForm acc result.2 }
+        ensures same { (self.new.run ≡ self.old.run) × (self.new.order ≡ self.old.order) }
+    {
+        let slot = &mut self.slots[self.lines.len()];
+        access_devices(&self.book, &mut self.devices, slot, pass, engine, acc)
     }
 
     // Makes the pulse of a hart that waits, where it is woken.
@@ -161,11 +245,37 @@ impl PlainBus {
         requires waits { waits pass ≡ true }
         ensures woken { IfSome result.1 (λ r. Extends pass result.0 (access_entry engine (Access.Pulse false) r.1)
             (Some (place_in self.old.run (Access.Pulse false))) r.0) }
+        ensures order { IfSome result.1 (λ r. (self.old.order ≤ r.0) × (self.new.order ≡ r.0 + 1)) }
         ensures form { IfSome result.1 (λ r. HasForm (Access.Pulse false) r.1) }
         ensures value { IfSome result.1 (λ r. r.1.value ≡ 0) }
         ensures looked { IfNone result.1 (HasLooked pass result.0) }
         ensures unwoken { IfNone result.1 (waits_unwoken self.old.run result.0 ≡ true) }
+        ensures stays { IfNone result.1 (self.new.order ≡ self.old.order) }
         ensures same { self.new.run ≡ self.old.run }
+    {
+        let pass = self.learn(pass);
+        match self.wake_by_devices(pass, engine) {
+            (pass, Some((number, reply))) => {
+                let pass = self.tell(pass, number);
+                (pass, Some((number, reply)))
+            }
+            (pass, None) => (pass, None),
+        }
+    }
+
+    // Looks at the devices and, where the hart is woken, makes its pulse.
+    fn wake_by_devices(&mut self, pass: Pass, engine: Engine) -> (Pass, Option<(u64, Reply)>)
+        requires ready { IsReady self.old.run pass }
+        requires waits { waits pass ≡ true }
+        ensures woken { IfSome result.1 (λ r. Extends pass result.0 (access_entry engine (Access.Pulse false) r.1)
+            (Some (place_in self.old.run (Access.Pulse false))) r.0) }
+        ensures seen { IfSome result.1 (λ r. pass.seen ≤ r.0) }
+        ensures after { IfSome result.1 (λ r. result.0.seen ≡ r.0 + 1) }
+        ensures form { IfSome result.1 (λ r. HasForm (Access.Pulse false) r.1) }
+        ensures value { IfSome result.1 (λ r. r.1.value ≡ 0) }
+        ensures looked { IfNone result.1 (HasLooked pass result.0) }
+        ensures unwoken { IfNone result.1 (waits_unwoken self.old.run result.0 ≡ true) }
+        ensures same { (self.new.run ≡ self.old.run) × (self.new.order ≡ self.old.order) }
     {
         let slot = &mut self.slots[self.lines.len()];
         wake_at(&self.book, &mut self.devices, slot, pass, engine)
@@ -182,6 +292,8 @@ impl PlainBus {
             slots,
             room,
             origin: _,
+            newest: _,
+            latest: _,
         } = self;
         let passes = take_passes(slots, room);
         EndMemory {

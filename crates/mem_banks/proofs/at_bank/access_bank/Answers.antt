@@ -1,11 +1,12 @@
-use Rattle.std.proofs.Common.{rules, ◌≡◌, Some, ◌++◌, ◌∷◌, [], ap, sym, ◌∙◌, subst}
+use Rattle.std.proofs.Common.{rules, ◌≡◌, ℕ, ◌+◌, Some, ◌++◌, ◌∷◌, [], List, ap, sym, ◌∙◌, subst}
 use Rattle.flex_base.specs.FlatMemory.{flat}
 use Rattle.flex_base.specs.Unsplit.{with_access}
 use Rattle.flex_base.specs.Banks.{accesses_of}
 use Rattle.flex_base.specs.declared.hart.HartId.{HartId}
 use Rattle.mem_lines.specs.Bank.{IsReplay}
+use Rattle.access_record.specs.declared.entry.LogEntry.{LogEntry}
 use Rattle.access_record.specs.Buses.{events_of}
-use Rattle.mem_banks.specs.Slots.{pass_of, log_in}
+use Rattle.mem_banks.specs.Slots.{pass_of, log_in, seen_in}
 use Rattle.mem_banks.specs.Kept.{IsBankOf}
 use Rattle.mem_banks.proofs.Bytes.{entry_of}
 use Rattle.mem_banks.proofs.Keeping.{lines_push}
@@ -20,10 +21,11 @@ returns-clause-kept c = λ run asked.
     let hart_is : c.hart.result ≡ c.args.pass.hart = search rules in
     let replay = asked.kept.lines.replay in
     let e = entry_of c.args.pass.hart c.args.engine c.args.acc reply old.bank c.note_at-pass.result.1 in
-    let now_is : c.note_at-pass.new.slot ≡ Some (pass_of run.book old.bank (was ++ e ∷ [])) = search rules in
+    let now_is : c.note_at-pass.new.slot ≡ Some (pass_of run.book old.bank (was ++ e ∷ []) (c.note_at-pass.result.1 + 1)) = search rules in
     let log_is = ap log_in now_is in
+    let seen_is = ap seen_in now_is in
     record {
-      pass = now_is ∙ ap (λ l. Some (pass_of run.book old.bank l)) (sym log_is);
+      pass = now_is ∙ ap (λ (x : List LogEntry × ℕ). Some (pass_of run.book old.bank x.0 x.1)) (λ i. (sym log_is i, sym seen_is i));
       lines = subst (λ l. IsBankOf run old.bank c.act-reply.new.self l) (sym log_is)
           (lines_push run old.bank old c.act-reply.new.self was c.args.pass.hart c.args.engine c.args.acc reply c.note_at-pass.result.1
           asked.kept.lines asked.ram asked.here

@@ -1,12 +1,13 @@
-use Rattle.std.proofs.Common.{rules, ◌≡◌, Some, ◌++◌, ◌∷◌, [], ap, sym, ◌∙◌, subst}
+use Rattle.std.proofs.Common.{rules, ◌≡◌, ℕ, ◌+◌, Some, ◌++◌, ◌∷◌, [], List, ap, sym, ◌∙◌, subst}
 use Rattle.flex_base.specs.Unsplit.{with_access}
 use Rattle.flex_base.specs.Devices.{reply_after}
 use Rattle.flex_base.specs.Banks.{accesses_of}
 use Rattle.flex_base.specs.declared.hart.HartId.{HartId}
 use Rattle.devices.specs.View.{IsReplay}
+use Rattle.access_record.specs.declared.entry.LogEntry.{LogEntry}
 use Rattle.access_record.specs.Buses.{events_of, ram_banks}
 use Rattle.access_record.specs.Logs.{on_bank, of_hart}
-use Rattle.mem_banks.specs.Slots.{pass_of, log_in}
+use Rattle.mem_banks.specs.Slots.{pass_of, log_in, seen_in}
 use Rattle.mem_banks.specs.Kept.{AreDevicesOf}
 use Rattle.mem_banks.proofs.Bytes.{entry_of}
 use Rattle.mem_banks.proofs.Waiting.{proper_by}
@@ -36,18 +37,19 @@ returns-clause-kept c = λ run asked.
     let reply = c.act-reply.result in
     let hart_is : c.hart.result ≡ pass.hart = search rules in
     let e = entry_of pass.hart c.args.engine c.args.acc reply dev c.note_at-pass.result.1 in
-    let now_is : c.note_at-pass.new.slot ≡ Some (pass_of run.book dev (was ++ e ∷ [])) = search rules in
+    let now_is : c.note_at-pass.new.slot ≡ Some (pass_of run.book dev (was ++ e ∷ []) (c.note_at-pass.result.1 + 1)) = search rules in
     let log_is = ap log_in now_is in
+    let seen_is = ap seen_in now_is in
     let agree : on_bank dev pass.log ≡ of_hart pass.hart.0 was = search rules in
     let waits = waits_at run c.args.devices.now pass was kept asked.may.ready.places agree ∙ asked.may.awake in
     record {
-      pass = now_is ∙ ap (λ l. Some (pass_of run.book dev l)) (sym log_is);
+      pass = now_is ∙ ap (λ (x : List LogEntry × ℕ). Some (pass_of run.book dev x.0 x.1)) (λ i. (sym log_is i, sym seen_is i));
       devices = subst (λ l. AreDevicesOf run c.act-reply.new.self l) (sym log_is)
           (devices_push run c.args.devices.now c.act-reply.new.self was pass.hart c.args.engine c.args.acc reply c.note_at-pass.result.1
           kept asked.may.ready.hart asked.device
-          (subst (λ (h : HartId). reply ≡ reply_after run.setup.harts run.input made h.0 c.args.acc) hart_is (c.act-reply.ensures.reply run.setup.harts run.input made kept.replay))
+          (subst (λ (h : HartId). reply ≡ reply_after run.setup.harts run.setup.input made h.0 c.args.acc) hart_is (c.act-reply.ensures.reply run.setup.harts run.setup.input made kept.replay))
           (proper_by run.setup.harts made pass.hart.0 c.args.acc waits)
-          (subst (λ (h : HartId). IsReplay run.setup.harts run.input (with_access made h.0 c.args.acc reply) c.act-reply.new.self) hart_is (c.act-reply.ensures.replay run.setup.harts run.input made kept.replay))
+          (subst (λ (h : HartId). IsReplay run.setup.harts run.setup.input (with_access made h.0 c.args.acc reply) c.act-reply.new.self) hart_is (c.act-reply.ensures.replay run.setup.harts run.setup.input made kept.replay))
           (λ sends. own_bytes dev pass.hart.0 run.setup.budget pass.log was agree (asked.may.console sends))
           c.act-reply.ensures.same);
     }

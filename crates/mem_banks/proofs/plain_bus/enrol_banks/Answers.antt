@@ -14,7 +14,7 @@ pub loop-bank-preserved : goal.loop-bank-preserved
 loop-bank-preserved c =
     let bank = c.loop-bank.bank in
     let book = c.args.book.now in
-    let pass_is : c.enrol_bank-next.result.1 ≡ pass_of book bank [] = search rules in (
+    let pass_is : c.enrol_bank-next.result.1 ≡ pass_of book bank [] 0 = search rules in (
       search rules,
       search rules,
       ap (λ (r : Enrolment). r.banks) c.enrol_bank-next.ensures.founder ∙ ap (λ banks. bank ∷ banks) c.loop-bank.invariant.2 ∙ sym (numbers_more bank),

@@ -1,0 +1,29 @@
+use Rattle.std.proofs.Common.{rules, arith, ◌≡◌, ◌+◌, ◌≤◌}
+use Rattle.mem_banks.specs.Slots.{seen_in}
+use Rattle.mem_banks.specs.Origins.{run_from}
+use Rattle.mem_banks.specs.Plain.{next_number}
+use Rattle.mem_banks.proofs.Seen.{held_at, plain-shared, seen-set}
+use Rattle.mem_banks.proofs.plain_bus.PlainBus.tell.Goals as goal
+
+pub share_at-pass-requires-clause-held : goal.share_at-pass-requires-clause-held
+share_at-pass-requires-clause-held c =
+    let run = run_from c.self.inside.book c.self.inside.origin in
+    let has = c.self.invariant.1 in
+    held_at run c.self.inside.lines.items c.self.inside.devices c.self.inside.slots.items c.self.invariant.0 c.self.inside.newest c.index_mut.result.now has.bank c.index_mut.ensures.value
+
+pub invariant_of-self : goal.invariant_of-self
+invariant_of-self c =
+    let run = run_from c.self.inside.book c.self.inside.origin in
+    let has = c.self.invariant.1 in
+    let lines = c.self.inside.lines.items in
+    let slots = c.self.inside.slots.items in
+    let k = c.self.inside.newest in
+    let old = c.index_mut.result.now in
+    let new = c.share_at-pass.new.slot in
+    let seen : c.args.pass.seen ≤ seen_in new = search rules in
+    let told : next_number c.of.result.value ≡ c.args.number + 1 = search rules in (
+      plain-shared run lines c.self.inside.devices slots c.self.invariant.0 k _ old new has.bank c.index_mut.ensures.value c.share_at-pass.ensures.slot,
+      seen-set run lines c.self.inside.devices slots c.self.invariant.0 k (next_number c.of.result.value) new has.bank (omega (arith, seen, told, c.requires.seen)),
+      search rules,
+      search rules,
+    )
