@@ -20,11 +20,11 @@ use Rattle.hart_story.proofs.Seeing.{are_none}
 use Rattle.journal.specs.Log.{Log}
 use Rattle.access_record.specs.declared.entry.LogEntry.{LogEntry}
 use Rattle.access_record.specs.Passes.{PassOfHart}
-use Rattle.access_record.specs.Buses.{events_of, waits}
+use Rattle.access_record.specs.Buses.{Run, NamePlaces, events_of, waits}
 use Rattle.transplant_plan.specs.Planning.{engine_at}
 use Rattle.transplant_plan.specs.Split.{Nothing}
 use Rattle.transplant_plan.specs.declared.plan.Plan.{Plan}
-use Rattle.context.specs.Contexts.{Context, context_of, new_context, layout_of, IsRunOf, instruction_at, StandsIn, IsContext}
+use Rattle.context.specs.Contexts.{Context, context_of, new_context, layout_of, IsRunOf, instruction_at, StandsIn, IsContext, IsOn}
 use Rattle.context.proofs.Fewness.{story_within}
 
 third_true : (a b c d : Bool) → (a && b && c && d) ≡ true → c ≡ true
@@ -88,6 +88,19 @@ module _ (hart : Hart) (pass : PassOfHart) (log : Log) (plan : Plan) (settings :
         absurd cc;
     round = omega (arith, stands.regs.ends);
   }
+
+-- and of each run of a bus whose record the pass is of
+pub begins_on : (hart : Hart) (pass : PassOfHart) (log : Log) (plan : Plan) (settings : Settings) (c : Context) (run : Run)
+    → c ≡ new_context hart pass log plan settings → pass.log ≡ [] → pass.id ≡ run.book.id → IsRunOf c.entry settings run.setup
+    → run.book.limits.room ≡ 24 * settings.budget + 24 → IsOn run c
+begins_on hart pass log plan settings c run is none book setup limit =
+    let here : IsOn run (new_context hart pass log plan settings) = record {
+      book = book;
+      setup = subst (λ (k : Context). IsRunOf k.entry settings run.setup) is setup;
+      places = subst (λ (entries : List LogEntry). NamePlaces run entries) (sym none) tt;
+      limit = limit;
+    } in
+    subst (λ (k : Context). IsOn run k) (sym is) here
 
 -- the parts of the new context are its own
 pub new_is : (hart : Hart) (progress : Progress) (own pass : PassOfHart) (log : Log) (plan : Plan) (settings : Settings) (engine : Engine)

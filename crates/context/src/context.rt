@@ -6,6 +6,7 @@ ghost use Rattle.flex_base.specs.Limits.{is_lawful};
 ghost use Rattle.hart_story.specs.StandsFor.{StandsFor};
 ghost use Rattle.flex_base.specs.Following.{wanted};
 ghost use Rattle.hart_story.specs.Need.{need_of, AsksPlaced};
+ghost use Rattle.access_record.specs.Buses.{Run};
 ghost use Rattle.context.specs.declared.wants.Wants.TheVariants as Wants;
 ghost use Rattle.context.specs.Contexts.{new_context, layout_of, IsRunOf, instruction_at, IsWanting, IsWantedIn, IsAsking, IsEnding, IsContext, IsOn, IsSame, Steps, Moves, HasTried};
 
@@ -41,6 +42,8 @@ pub struct HartContext {
     engine: Engine,
 }
 
+const _: () = prove!(size_of::<HartContext>() <= 960);
+
 impl Model for HartContext {
     ghost use Rattle.context.specs.Contexts.{Context, context_of, IsContext};
 
@@ -71,6 +74,8 @@ impl HartContext {
         requires log { log ≡ record { events = []; room = 24 * settings.now.budget + 24 } }
         ensures context { result ≡ new_context hart pass log plan settings.now }
         ensures entry { (image : Loaded) → StandsFor hart (start pass.hart.0 image.entry) → result.entry ≡ image.entry }
+        ensures on { (run : Run) → pass.id ≡ run.book.id → IsRunOf result.entry settings.now run.setup
+            → run.book.limits.room ≡ 24 * settings.now.budget + 24 → IsOn run result }
     {
         let entry = hart.regs.pc;
         let engine = plan.engine_for(Class::Fetch);
