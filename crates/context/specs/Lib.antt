@@ -2,3 +2,4 @@ pub mod Contexts
 pub mod Obeying
 pub mod Fewness
 pub mod Held
+pub mod Tried

@@ -8,3 +8,6 @@ mod wants;
 
 pub use context::HartContext;
 pub use wants::Wants;
+
+#[cfg(test)]
+mod tests;
