@@ -8,7 +8,9 @@ ghost use Rattle.flex_base.specs.Following.{wanted};
 ghost use Rattle.hart_story.specs.Need.{need_of, AsksPlaced};
 ghost use Rattle.access_record.specs.Buses.{Run};
 ghost use Rattle.context.specs.declared.wants.Wants.TheVariants as Wants;
-ghost use Rattle.context.specs.Contexts.{new_context, layout_of, IsRunOf, instruction_at, IsWanting, IsWantedIn, IsAsking, IsEnding, IsContext, IsOn, IsSame, Steps, Moves, HasTried};
+ghost use Rattle.context.specs.declared.wants.Wants.{Wants};
+ghost use Rattle.context.specs.Obeying.{engine_wanted};
+ghost use Rattle.context.specs.Contexts.{new_context, plan_of, layout_of, IsRunOf, instruction_at, IsWanting, IsWantedIn, IsAsking, IsEnding, IsContext, IsOn, IsSame, Steps, Moves, HasTried};
 
 use crate::held::HeldPass;
 use crate::wants::Wants;
@@ -116,6 +118,19 @@ impl HartContext {
             Need::Finish(class) => Wants::Finish(class),
             Need::Parked => Wants::Parked,
             Need::Over => Wants::Over,
+        }
+    }
+
+    /// The engine to which the plan gives what the hart wants. One that is parked or over wants the
+    /// engine that it is in.
+    pub fn wanted_engine(&self) -> Engine
+        ensures { (w : Wants) → IsWanting self.now w → result ≡ engine_wanted (plan_of self.now) self.now.engine w }
+    {
+        match self.wants() {
+            Wants::Ask(class) => self.plan.engine_for(class),
+            Wants::Finish(class) => self.plan.engine_for(class),
+            Wants::Parked => self.engine,
+            Wants::Over => self.engine,
         }
     }
 
