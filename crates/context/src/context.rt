@@ -61,13 +61,7 @@ impl HartContext {
     ///
     /// The hart is at its start in an image that fits. The pass is of that hart and its log is empty;
     /// so is the log, which has room for 24 events an end and 24 more.
-    pub fn new(
-        hart: Hart,
-        pass: Pass,
-        log: HartLog,
-        plan: Plan,
-        settings: &Settings,
-    ) -> HartContext
+    pub fn new(hart: Hart, pass: Pass, log: HartLog, plan: Plan, settings: &Settings) -> HartContext
         requires lawful { is_lawful settings.now ≡ true }
         requires image { (image : Loaded) × (image_fits settings.now.ram image ≡ true)
             × StandsFor hart (start pass.hart.0 image.entry) }
@@ -231,9 +225,16 @@ impl HartContext {
         match self.pass.wake(bus, self.engine) {
             Some((number, reply)) => {
                 let layout = layout_of(&self.settings);
-                give(&self.hart, &mut self.progress, &layout, self.settings.budget, reply);
+                give(
+                    &self.hart,
+                    &mut self.progress,
+                    &layout,
+                    self.settings.budget,
+                    reply,
+                );
                 let access = Access::Pulse { tick: false };
-                self.log.push_access(number, self.pass.hart(), self.engine, access, reply);
+                self.log
+                    .push_access(number, self.pass.hart(), self.engine, access, reply);
                 true
             }
             None => false,
@@ -286,7 +287,13 @@ impl HartContext {
     {
         let (number, reply) = self.pass.access(bus, self.engine, access);
         let layout = layout_of(&self.settings);
-        give(&self.hart, &mut self.progress, &layout, self.settings.budget, reply);
+        give(
+            &self.hart,
+            &mut self.progress,
+            &layout,
+            self.settings.budget,
+            reply,
+        );
         self.log
             .push_access(number, self.pass.hart(), self.engine, access, reply);
     }

@@ -226,6 +226,9 @@ fn harts_go_from_engine_to_engine(rt: HostRuntime) -> Result<(), Fail> {
     end.discard();
     assert_eq!(rt; [waits, sends, goes_on], [18, 9, 2]);
     assert_eq!(rt; [log.len(), second_log.len(), closed.count], [19, 9, 28]);
-    assert_eq!(rt; [count_amos(&log), hart.regs.get(6), hart.regs.ends], [1, 0x397, 5]);
+    assert_eq!(rt;
+        [count_amos(&log), hart.regs.get(6), hart.regs.ends],
+        [1, 0x397, 5]
+    );
     Ok(())
 }

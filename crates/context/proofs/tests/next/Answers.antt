@@ -1,4 +1,4 @@
-use Rattle.std.proofs.Common.{◌≡◌, sym, ◌∙◌}
+use Rattle.std.proofs.Common.{sym, ◌∙◌}
 use Rattle.context.specs.declared.wants.Wants.TheVariants as wants
 use Rattle.context.specs.Contexts.{IsWanting}
 use Rattle.context.proofs.tests.next.Goals as goal

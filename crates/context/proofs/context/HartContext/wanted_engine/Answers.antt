@@ -1,5 +1,5 @@
 -- What is wanted is one thing, and so is its engine.
-use Rattle.std.proofs.Common.{◌≡◌, refl, ◌∙◌}
+use Rattle.std.proofs.Common.{refl, ◌∙◌}
 use Rattle.context.specs.declared.wants.Wants.TheVariants as wants
 use Rattle.context.proofs.Keeping.{wanted_engine_is}
 use Rattle.context.proofs.context.HartContext.wanted_engine.Goals as goal
