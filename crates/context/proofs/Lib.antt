@@ -1,0 +1,4 @@
+pub mod Fewness
+pub mod Obeying
+pub mod Keeping
+pub mod Starting

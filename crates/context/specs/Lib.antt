@@ -1,0 +1,5 @@
+pub mod Contexts
+pub mod Obeying
+pub mod Fewness
+pub mod Held
+pub mod Tried

@@ -1,0 +1,13 @@
+//! A hart on the move: its state, its instruction in flight, its events and its pass, in one value.
+//! It makes one event a call, over any bus, and goes from engine to engine by its plan.
+#![tactic(auto)]
+
+mod context;
+mod held;
+mod wants;
+
+pub use context::HartContext;
+pub use wants::Wants;
+
+#[cfg(test)]
+mod tests;
