@@ -5,9 +5,10 @@ use flex_base::Line;
 use image_loader::ImageFault;
 use itoa::Buffer;
 use std::alloc::{AllocError, Global};
+use transplant_plan::PlanFault;
 
 /// What a command answers.
-#[derive(Clone, Copy, Debug, PartialEq, Eq)]
+#[derive(Debug, Drop)]
 pub enum Status {
     /// It did all that it was asked.
     Ended,
@@ -17,6 +18,8 @@ pub enum Status {
     ReadFault,
     /// The image can't be run.
     ImageRefused(ImageFault),
+    /// The plan can't be followed.
+    PlanRefused(PlanFault),
     OutOfMemory,
     /// A file couldn't be written.
     WriteFault,
@@ -33,6 +36,7 @@ pub fn status_code(status: &Status) -> u8
         Status::Usage => 1,
         Status::ReadFault => 2,
         Status::ImageRefused(_) => 3,
+        Status::PlanRefused(_) => 4,
         Status::OutOfMemory => 5,
         Status::WriteFault => 6,
         Status::InputTooLong(_) => 7,
@@ -71,6 +75,9 @@ fn push_meaning(line: &mut Line, status: &Status)
         Status::ReadFault => line.push(b"read fault"),
         Status::ImageRefused(fault) => {
             push_numbered(line, b"image refused ", fault.number().into());
+        }
+        Status::PlanRefused(fault) => {
+            push_numbered(line, b"plan refused ", fault.number().into());
         }
         Status::OutOfMemory => line.push(b"out of memory"),
         Status::WriteFault => line.push(b"write fault"),
