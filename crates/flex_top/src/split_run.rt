@@ -91,17 +91,31 @@ impl SplitRun {
         ensures size { OnOk result (length self.new.engines.items ≡ length self.old.engines.items) }
         ensures room { OnOk result (1 ≤ self.new.events.room) }
     {
+        let engine = self.plan.engine_for(class);
+        self.move_to(hart, engine)?;
+        Ok(engine)
+    }
+
+    // Makes room for an event in this engine, with a handover before it where the hart is in another.
+    #[inline(always)]
+    fn move_to(&mut self, hart: HartId, to: Engine) -> Result<(), AllocError>
+        requires hart { hart.0 < length self.old.engines.items }
+        ensures entered { OnOk result (splitting_of self.new
+            ≡ entered (engines_by self.old) (splitting_of self.old) hart.0 to) }
+        ensures plan { OnOk result (self.new.plan ≡ self.old.plan) }
+        ensures size { OnOk result (length self.new.engines.items ≡ length self.old.engines.items) }
+        ensures room { OnOk result (1 ≤ self.new.events.room) }
+    {
         if self.events.room() < 2 {
             self.events.grow()?;
         }
         let h = hart.0 as usize;
         let from = self.engines[h];
-        let to = self.plan.engine_for(class);
         if from != to {
             self.hand_over(hart, from, to);
         }
         self.engines[h] = to;
-        Ok(to)
+        Ok(())
     }
 
     // The hart goes from one engine to another.

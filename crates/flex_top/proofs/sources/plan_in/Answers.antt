@@ -1,6 +1,7 @@
 -- The file that was taken, or why there is none.
-use Rattle.std.proofs.Common.{ℕ, Some, Err, refl, ap, sym, subst, ◌∙◌}
+use Rattle.std.proofs.Common.{◌≡◌, ◌≢◌, ℕ, List, Some, Ok, Err, refl, ap, sym, subst, ◌∙◌}
 use Rattle.transplant_plan.specs.Assignment.{Assignment}
+use Rattle.transplant_plan.specs.PlanFile.{plan_of}
 use Rattle.transplant_plan.specs.Shown.{shown}
 use Rattle.transplant_plan.specs.declared.fault.PlanFault.TheVariants as plan
 use Rattle.flex_top.specs.Answer.{plan_limit, plan_from}
@@ -31,16 +32,21 @@ returns-in-Err-OutOfMemory-clause-refused g c =
 
 pub returns-in-Ok-read_plan-clause-gives : goal.returns-in-Ok-read_plan-clause-gives
 returns-in-Ok-read_plan-clause-gives g c =
-    plan_taken (g.O.Outer.outside c.args.outer.now).held c.args.name.now c.in-Ok.file.items (shown c.in-Ok-read_plan.plan) c.in-Ok.ensures.taken c.in-Ok.ensures.within c.in-Ok-read_plan.ensures.ok
+    let plan = shown c.in-Ok-read_plan.plan in
+    let Says : List ℕ → Type 0 = λ bytes. plan_of bytes ≡ Ok plan in
+    plan_taken (g.O.Outer.outside c.args.outer.now).held c.args.name.now c.in-Ok.file.items plan c.in-Ok.ensures.taken c.in-Ok.ensures.within
+    (subst Says c.deref.ensures.value c.in-Ok-read_plan.ensures.ok)
 
-pub returns-in-Err-clause-refused : goal.returns-in-Err-clause-refused
-returns-in-Err-clause-refused g c =
+pub returns-clause-refused : goal.returns-clause-refused
+returns-clause-refused g c =
     let held = (g.O.Outer.outside c.args.outer.now).held in
+    let Faulty : List ℕ → Type 0 = λ bytes. c.in-Err.fault ≢ plan.OutOfMemory → plan_of bytes ≡ Err c.in-Err.fault in
     let At : Status → Type 0 = λ why. IsPlanAnswered held c.args.name.now why in
-    (subst At (sym c.answer_to_plan.ensures) (plan_answered held c.args.name.now c.in-Ok.file.items c.in-Err.fault c.in-Ok.ensures.taken c.in-Ok.ensures.within c.in-Err.ensures.fault)).0
+    (subst At (sym c.answer_to_plan.ensures) (plan_answered held c.args.name.now c.in-Ok.file.items c.in-Err.fault c.in-Ok.ensures.taken c.in-Ok.ensures.within (subst Faulty c.deref.ensures.value c.in-Err.ensures.fault))).0
 
-pub returns-in-Err-clause-refusal : goal.returns-in-Err-clause-refusal
-returns-in-Err-clause-refusal g c =
+pub returns-clause-refusal : goal.returns-clause-refusal
+returns-clause-refusal g c =
     let held = (g.O.Outer.outside c.args.outer.now).held in
+    let Faulty : List ℕ → Type 0 = λ bytes. c.in-Err.fault ≢ plan.OutOfMemory → plan_of bytes ≡ Err c.in-Err.fault in
     let At : Status → Type 0 = λ why. IsPlanAnswered held c.args.name.now why in
-    (subst At (sym c.answer_to_plan.ensures) (plan_answered held c.args.name.now c.in-Ok.file.items c.in-Err.fault c.in-Ok.ensures.taken c.in-Ok.ensures.within c.in-Err.ensures.fault)).1
+    (subst At (sym c.answer_to_plan.ensures) (plan_answered held c.args.name.now c.in-Ok.file.items c.in-Err.fault c.in-Ok.ensures.taken c.in-Ok.ensures.within (subst Faulty c.deref.ensures.value c.in-Err.ensures.fault))).1
