@@ -120,7 +120,7 @@ mod tests {
                 "flexemu: input too long 18446744073709551615\n",
             ),
         ] {
-            assert_status(&rt, rt.alloc(), status, code, text)?;
+            assert_status(&rt, rt.alloc(), &status, code, text)?;
         }
         Ok(())
     }
@@ -147,7 +147,20 @@ mod tests {
             (ImageFault::TooLong(6), "flexemu: image refused 11\n"),
             (ImageFault::OutOfMemory, "flexemu: image refused 12\n"),
         ] {
-            assert_status(&rt, rt.alloc(), Status::ImageRefused(fault), 3, text)?;
+            assert_status(&rt, rt.alloc(), &Status::ImageRefused(fault), 3, text)?;
+        }
+        Ok(())
+    }
+
+    #[test]
+    fn says_each_fault_of_a_plan(rt: HostRuntime) -> Result<(), AllocError> {
+        for (fault, text) in [
+            (PlanFault::NotUtf8, "flexemu: plan refused 1\n"),
+            (PlanFault::NotToml, "flexemu: plan refused 2\n"),
+            (PlanFault::OutOfMemory, "flexemu: plan refused 7\n"),
+            (PlanFault::TooLong(65_537), "flexemu: plan refused 8\n"),
+        ] {
+            assert_status(&rt, rt.alloc(), &Status::PlanRefused(fault), 4, text)?;
         }
         Ok(())
     }
@@ -155,12 +168,12 @@ mod tests {
     fn assert_status(
         rt: &impl Abort,
         alloc: Global,
-        status: Status,
+        status: &Status,
         code: u8,
         text: &str,
     ) -> Result<(), AllocError> {
-        assert_eq!(rt; status_code(&status), code, "the code of {text}");
-        let said = status_text(alloc, &status)?;
+        assert_eq!(rt; status_code(status), code, "the code of {text}");
+        let said = status_text(alloc, status)?;
         assert!(rt; said.as_slice() == text.as_bytes(), "the text of {text}");
         Ok(())
     }
