@@ -10,14 +10,19 @@ use Rattle.flex_base.specs.Unsplit.{reach}
 use Rattle.flex_base.specs.Rounds.{names_played}
 use Rattle.flex_base.specs.Journal.{console}
 use Rattle.flex_base.specs.declared.event.Event.{Event}
+use Rattle.transplant_plan.specs.Assignment.{Assignment}
+use Rattle.transplant_plan.specs.Shown.{shown}
+use Rattle.transplant_plan.specs.Split.{Plan}
+use Rattle.transplant_plan.specs.declared.plan.Plan as declared
+use Rattle.transplant_plan.specs.declared.fault.PlanFault.TheVariants as plan
 use Rattle.image_loader.specs.declared.fault.ImageFault.TheVariants as image
 use Rattle.tracer.specs.Trace.{settings_of, tail_of, whole_text}
 use Rattle.tracer.specs.declared.tail_text.TailLine.{TailLine}
 use Rattle.flex_top.specs.Words.{Reading}
-use Rattle.flex_top.specs.Answer.{Sources, file_among, sources_among, image_from, input_from, setup_of, journal_of, answer_of, expected, Outcome, outcome_with, outcome_of_run, outcome_of, outcome}
-use Rattle.flex_top.specs.Does.{IsAnswer, Answers, IsCalm, IsEnded, WritesAll, WritesPart, Leaves, BreaksSaying, BreaksWriting, LeavesPart, LeavesNothing, Does, TellsFaults}
+use Rattle.flex_top.specs.Answer.{Sources, file_among, sources_among, plan_by, plan_from, image_from, input_from, setup_of, journal_of, answer_of, expected, Outcome, outcome_with, outcome_of_run, outcome_of, outcome}
+use Rattle.flex_top.specs.Does.{IsAnswer, first_named, Answers, IsCalm, IsEnded, WritesAll, WritesPart, Leaves, BreaksSaying, BreaksWriting, LeavesPart, LeavesNothing, Does, TellsFaults}
 use Rattle.flex_top.specs.Play.{IsAt}
-use Rattle.flex_top.specs.Taking.{IsFile, Gives, Refuses, IsRefused, IsRefusal, IsOfRun}
+use Rattle.flex_top.specs.Taking.{IsFile, Gives, Refuses, IsRefused, IsPlanRefused, IsRefusal, IsOfRun}
 use Rattle.flex_top.specs.Written.{OnlyLeaves, Becomes, BecomesPart}
 use Rattle.flex_top.specs.declared.player.Player.{Player}
 use Rattle.flex_top.specs.declared.status.Status.{Status}
@@ -36,6 +41,7 @@ ended_by status.ReadFault is unread unwritten = absurd (unread refl)
 ended_by status.WriteFault is unread unwritten = absurd (unwritten refl)
 ended_by status.Usage is unread unwritten = absurd cc
 ended_by (status.ImageRefused why) is unread unwritten = absurd cc
+ended_by (status.PlanRefused why) is unread unwritten = absurd cc
 ended_by (status.InputTooLong n) is unread unwritten = absurd cc
 
 -- The files that a command goes by: those that are told, else some.
@@ -48,13 +54,16 @@ pub told_file : (held : Option Files) (name : Option (List ℕ)) → IsFile held
 told_file None name = tt
 told_file (Some files) name = refl
 
-abbrev sources : Option (List ℕ) → Option (List ℕ) → Sources
-sources image input = record { image = image; input = input }
+abbrev sources : Option (List ℕ) → Option (List ℕ) → Option (List ℕ) → Sources
+sources plan image input = record { plan = plan; image = image; input = input }
 
-told_sources : (held : Option Files) (r : Reading) (image input : Option (List ℕ)) → IsFile held (Some r.image) image → IsFile held r.input input
-    → IfSome held (λ files. sources image input ≡ sources_among r files)
-told_sources None r image input first second = tt
-told_sources (Some files) r image input first second = ap (λ (o : Option (List ℕ)). sources o input) first ∙ ap (λ (o : Option (List ℕ)). sources (files r.image) o) second
+told_sources : (held : Option Files) (r : Reading) (plan image input : Option (List ℕ)) → IsFile held r.plan plan → IsFile held (Some r.image) image → IsFile held r.input input
+    → IfSome held (λ files. sources plan image input ≡ sources_among r files)
+told_sources None r plan image input first second third = tt
+told_sources (Some files) r plan image input first second third =
+    ap (λ (o : Option (List ℕ)). sources o image input) first
+    ∙ ap (λ (o : Option (List ℕ)). sources (file_among r.plan files) o input) second
+    ∙ ap (λ (o : Option (List ℕ)). sources (file_among r.plan files) (files r.image) o) third
 
 -- one read after another
 
@@ -95,6 +104,7 @@ answer_by : (e why : Status) → IsRefusal why → why ≡ e → IsAnswer e why
 answer_by e status.ReadFault is same = tt
 answer_by e status.OutOfMemory is same = tt
 answer_by e (status.ImageRefused fault) is same = same
+answer_by e (status.PlanRefused fault) is same = same
 answer_by e (status.InputTooLong n) is same = same
 answer_by e status.Usage is same = absurd is
 answer_by e status.Ended is same = absurd is
@@ -106,22 +116,45 @@ refusal_answers A None meaning e why refuses is leads = answer_by e why is (lead
 refusal_answers A (Some file) meaning e status.ReadFault refuses is leads = tt
 refusal_answers A (Some file) meaning e status.OutOfMemory refuses is leads = tt
 refusal_answers A (Some file) meaning e (status.ImageRefused fault) refuses is leads = leads refuses
+refusal_answers A (Some file) meaning e (status.PlanRefused fault) refuses is leads = leads refuses
 refusal_answers A (Some file) meaning e (status.InputTooLong n) refuses is leads = leads refuses
 refusal_answers A (Some file) meaning e status.Usage refuses is leads = absurd is
 refusal_answers A (Some file) meaning e status.Ended refuses is leads = absurd is
 refusal_answers A (Some file) meaning e status.WriteFault refuses is leads = absurd is
 
--- of the image
-image_answers : (file : Option (List ℕ)) (meaning : Result Loaded Status) (input : Result (List ℕ) Status) (why : Status) → Refuses Loaded file meaning why → IsRefusal why
-    → Answers file (answer_of meaning input) why
-image_answers None meaning input why refuses is = sym (ap (λ (l : Result Loaded Status). answer_of l input) refuses)
-image_answers (Some file) meaning input why refuses is =
-    refusal_answers Loaded (Some file) meaning (answer_of meaning input) why refuses is (λ same. sym (ap (λ (l : Result Loaded Status). answer_of l input) same))
+-- of the image, where no plan is named
+image_answers : (file : Option (List ℕ)) (given : Assignment) (meaning : Result Loaded Status) (input : Result (List ℕ) Status) (why : Status) → Refuses Loaded file meaning why → IsRefusal why
+    → Answers file (answer_of (Ok given) meaning input) why
+image_answers None given meaning input why refuses is = sym (ap (λ (l : Result Loaded Status). answer_of (Ok given) l input) refuses)
+image_answers (Some file) given meaning input why refuses is =
+    refusal_answers Loaded (Some file) meaning (answer_of (Ok given) meaning input) why refuses is (λ same. sym (ap (λ (l : Result Loaded Status). answer_of (Ok given) l input) same))
+
+-- of the plan
+plan_refused : (file : Option (List ℕ)) (e why : Status) → Refuses Assignment file (plan_from file) why → IsRefusal why → (plan_from file ≡ Err why → why ≡ e) → Answers file e why
+plan_refused None e why refuses is leads = leads refuses
+plan_refused (Some file) e why refuses is leads = refusal_answers Assignment (Some file) (plan_from (Some file)) e why refuses is leads
 
 -- an image that is given has a file
 given_answers : (file : Option (List ℕ)) (ram : ℕ) (start : Loaded) (e why : Status) → image_from file ram ≡ Ok start → IsAnswer e why → Answers file e why
 given_answers None ram start e why gives is = absurd cc
 given_answers (Some file) ram start e why gives is = is
+
+-- a plan that is given has a file
+plan_answers : (file : Option (List ℕ)) (given : Assignment) (e why : Status) → plan_from file ≡ Ok given → IsAnswer e why → Answers file e why
+plan_answers None given e why gives is = absurd cc
+plan_answers (Some file) given e why gives is = is
+
+-- the first file is the plan's where one is named, else the image's
+first_answers : (name plan image : Option (List ℕ)) (given : Assignment) (e why : Status) → plan_by name plan ≡ Ok given → IsAnswer e why → (name ≡ None → Answers image e why)
+    → Answers (first_named name plan image) e why
+first_answers None plan image given e why gives is unnamed = unnamed refl
+first_answers (Some name) plan image given e why gives is unnamed = plan_answers plan given e why gives is
+
+-- the refusal of an image is the answer
+refused_image : (file : Option (List ℕ)) (given : Assignment) (meaning : Result Loaded Status) (input : Result (List ℕ) Status) (why : Status) → Refuses Loaded file meaning why → IsRefusal why
+    → IsAnswer (answer_of (Ok given) meaning input) why
+refused_image file given meaning input why refuses is =
+    refusal_answers Loaded file meaning (answer_of (Ok given) meaning input) why refuses is (λ same. sym (ap (λ (l : Result Loaded Status). answer_of (Ok given) l input) same))
 
 ended_refused : (file : Option (List ℕ)) (e why : Status) → Answers file e why → IsRefusal why → e ≡ status.Ended → (why ≡ status.ReadFault → ⊥) → IsEnded why
 ended_refused None e why is refusal ends unread = absurd (refusal_unended why refusal (is ∙ ends))
@@ -133,43 +166,72 @@ unwritten : (old : Option Files) (name : List ℕ) → ChangesFile old old name 
 unwritten None name = refl
 unwritten (Some files) name = (tt, λ other differs. refl)
 
-does_refuse : (r : Reading) (old new : Outside) (image input : Option (List ℕ)) (why : Status) → IsFile old.held (Some r.image) image → IsFile old.held r.input input
-    → Answers image (expected r (sources image input)) why → IsRefusal why → OnlyReads old new (why ≡ status.ReadFault) → Does r old why new
-does_refuse r old new image input why first second is refusal took =
+does_refuse : (r : Reading) (old new : Outside) (plan image input : Option (List ℕ)) (why : Status) → IsFile old.held r.plan plan → IsFile old.held (Some r.image) image → IsFile old.held r.input input
+    → Answers (first_named r.plan plan image) (expected r (sources plan image input)) why → IsRefusal why → OnlyReads old new (why ≡ status.ReadFault) → Does r old why new
+does_refuse r old new plan image input why first second third is refusal took =
     let Stays : Option Files → Type 0 = λ w. ChangesFile old.written w r.trace (λ was is. Unit {0}) in
     record {
-      files = sources image input;
-      told = told_sources old.held r image input first second;
+      files = sources plan image input;
+      told = told_sources old.held r plan image input first second third;
       answers = is;
       completes = λ ends calm quiet.
-          ended_refused image (expected r (sources image input)) why is refusal ends (calm_unfailed old.read_faults new.read_faults (why ≡ status.ReadFault) took.cause calm);
+          ended_refused (first_named r.plan plan image) (expected r (sources plan image input)) why is refusal ends (calm_unfailed old.read_faults new.read_faults (why ≡ status.ReadFault) took.cause calm);
       ended = λ at. absurd (refusal_unended why refusal at);
       cut = λ at. absurd (refusal_unwritten why refusal at);
       nothing = λ unended unfailed. record { said = took.said; written = took.written };
       others = subst Stays (sym took.written) (unwritten old.written r.trace);
       held = took.held;
+      long_plan = λ n same. subst IsRefusal same refusal;
       long_image = λ n same. subst IsRefusal same refusal;
       long_input = λ n same. subst IsRefusal same refusal;
     }
 
--- the image is refused
-pub does_refuse_image : (r : Reading) (old new : Outside) (why : Status) → IsRefused Loaded old.held (Some r.image) (λ file. image_from file r.settings.ram) why → IsRefusal why
+refuse_plan : (r : Reading) (old new : Outside) (name : Option (List ℕ)) (why : Status) → r.plan ≡ name → IsPlanRefused old.held name why → IsRefusal why
     → OnlyReads old new (why ≡ status.ReadFault) → Does r old why new
-does_refuse_image r old new why refused refusal took =
+refuse_plan r old new None why is refused refusal took = absurd refused
+refuse_plan r old new (Some name) why is refused refusal took =
+    let image = file_held old.held (Some r.image) in
     let input = file_held old.held r.input in
-    does_refuse r old new refused.file input why refused.told (told_file old.held r.input)
-    (image_answers refused.file (image_from refused.file r.settings.ram) (input_from input) why refused.refuses refusal) refusal took
+    let Told : Option (List ℕ) → Type 0 = λ n. IsFile old.held n refused.file in
+    let meaning = image_from image r.settings.ram in
+    let leads = λ (same : plan_from refused.file ≡ Err why). sym (ap (λ (p : Result Assignment Status). answer_of p meaning (input_from input)) same) in
+    let By : Option (List ℕ) → Type 0 = λ n. Answers (first_named n refused.file image) (answer_of (plan_by n refused.file) meaning (input_from input)) why in
+    does_refuse r old new refused.file image input why (subst Told (sym is) refused.told) (told_file old.held (Some r.image)) (told_file old.held r.input)
+    (subst By (sym is) (plan_refused refused.file (answer_of (plan_from refused.file) meaning (input_from input)) why refused.refuses refusal leads)) refusal took
 
--- the image is given, and the input is refused
-pub does_refuse_input : (r : Reading) (old new : Outside) (start : Loaded) (why : Status) → Gives Loaded old.held (Some r.image) (λ file. image_from file r.settings.ram) start
+-- the plan is refused
+pub does_refuse_plan : (r : Reading) (old new : Outside) (why : Status) → IsPlanRefused old.held r.plan why → IsRefusal why → OnlyReads old new (why ≡ status.ReadFault) → Does r old why new
+does_refuse_plan r old new why refused refusal took = refuse_plan r old new r.plan why refl refused refusal took
+
+-- the plan is given, and the image is refused
+pub does_refuse_image : (r : Reading) (old new : Outside) (given : Assignment) (why : Status) → Gives Assignment old.held r.plan (plan_by r.plan) given
+    → IsRefused Loaded old.held (Some r.image) (λ file. image_from file r.settings.ram) why → IsRefusal why
+    → OnlyReads old new (why ≡ status.ReadFault) → Does r old why new
+does_refuse_image r old new given why gives refused refusal took =
+    let input = file_held old.held r.input in
+    let meaning = image_from refused.file r.settings.ram in
+    let planned : answer_of (Ok given) meaning (input_from input) ≡ expected r (sources gives.file refused.file input) = sym (ap (λ (p : Result Assignment Status). answer_of p meaning (input_from input)) gives.is) in
+    let Is : Status → Type 0 = λ e. IsAnswer e why in
+    let First : Status → Type 0 = λ e. Answers refused.file e why in
+    does_refuse r old new gives.file refused.file input why gives.told refused.told (told_file old.held r.input)
+    (first_answers r.plan gives.file refused.file given (expected r (sources gives.file refused.file input)) why gives.is
+    (subst Is planned (refused_image refused.file given meaning (input_from input) why refused.refuses refusal))
+    (λ unnamed. subst First planned (image_answers refused.file given meaning (input_from input) why refused.refuses refusal))) refusal took
+
+-- plan and image are given, and the input is refused
+pub does_refuse_input : (r : Reading) (old new : Outside) (given : Assignment) (start : Loaded) (why : Status) → Gives Assignment old.held r.plan (plan_by r.plan) given
+    → Gives Loaded old.held (Some r.image) (λ file. image_from file r.settings.ram) start
     → IsRefused (List ℕ) old.held r.input input_from why → IsRefusal why → OnlyReads old new (why ≡ status.ReadFault) → Does r old why new
-does_refuse_input r old new start why gives refused refusal took =
+does_refuse_input r old new given start why planned gives refused refusal took =
     let meaning = input_from refused.file in
-    let e = expected r (sources gives.file refused.file) in
-    does_refuse r old new gives.file refused.file why gives.told refused.told
-    (given_answers gives.file r.settings.ram start e why gives.is
-    (refusal_answers (List ℕ) refused.file meaning e why refused.refuses refusal
-    (λ same. sym (ap (λ (l : Result Loaded Status). answer_of l meaning) gives.is ∙ ap (λ (i : Result (List ℕ) Status). answer_of (Ok start) i) same))))
+    let e = expected r (sources planned.file gives.file refused.file) in
+    let leads = λ (same : meaning ≡ Err why).
+    sym (ap (λ (p : Result Assignment Status). answer_of p (image_from gives.file r.settings.ram) meaning) planned.is
+    ∙ ap (λ (l : Result Loaded Status). answer_of (Ok given) l meaning) gives.is
+    ∙ ap (λ (i : Result (List ℕ) Status). answer_of (Ok given) (Ok start) i) same) in
+    let is : IsAnswer e why = refusal_answers (List ℕ) refused.file meaning e why refused.refuses refusal leads in
+    does_refuse r old new planned.file gives.file refused.file why planned.told gives.told refused.told
+    (first_answers r.plan planned.file gives.file given e why planned.is is (λ unnamed. given_answers gives.file r.settings.ram start e why gives.is is))
     refusal took
 
 -- Runs.
@@ -219,35 +281,43 @@ run_answers status.WriteFault of = refl
 run_answers status.ReadFault of = absurd of
 run_answers status.Usage of = absurd of
 run_answers (status.ImageRefused fault) of = absurd of
+run_answers (status.PlanRefused fault) of = absurd of
 run_answers (status.InputTooLong n) of = absurd of
 
 run_read : (answer : Status) → IsOfRun answer → answer ≢ status.ReadFault
 run_read answer of same = subst IsOfRun same of
 
 -- image and input are given, and `solo` did the rest
-pub does_run : (r : Reading) (old mid new : Outside) (start : Loaded) (input : List ℕ) (answer : Status) (Fails : Type 0)
+pub does_run : (r : Reading) (old mid new : Outside) (given : Assignment) (start : Loaded) (input : List ℕ) (answer : Status) (Fails : Type 0)
+    → Gives Assignment old.held r.plan (plan_by r.plan) given
     → Gives Loaded old.held (Some r.image) (λ file. image_from file r.settings.ram) start → Gives (List ℕ) old.held r.input input_from input
     → OnlyReads old mid Fails → IsOfRun answer
-    → (answer ≡ status.Ended → Leaves (outcome_of_run r (setup_of start input r.settings)) mid new)
-    → (answer ≡ status.WriteFault → LeavesPart (outcome_of_run r (setup_of start input r.settings)) mid new)
+    → (answer ≡ status.Ended → Leaves (outcome_of_run r given.engines (setup_of start input r.settings)) mid new)
+    → (answer ≡ status.WriteFault → LeavesPart (outcome_of_run r given.engines (setup_of start input r.settings)) mid new)
     → (answer ≢ status.Ended → answer ≢ status.WriteFault → LeavesNothing mid new) → Writes mid new r.trace (λ was is. Unit {0})
     → OnlyLeaves mid new (answer ≡ status.WriteFault) → Does r old answer new
-does_run r old mid new start input answer Fails image_given input_given took of ended cut nothing others left =
-    let files : Sources = sources image_given.file input_given.file in
+does_run r old mid new given start input answer Fails plan_given image_given input_given took of ended cut nothing others left =
+    let files : Sources = sources plan_given.file image_given.file input_given.file in
     let ends : expected r files ≡ status.Ended =
-    ap (λ (l : Result Loaded Status). answer_of l (input_from input_given.file)) image_given.is ∙ ap (λ (i : Result (List ℕ) Status). answer_of (Ok start) i) input_given.is in
-    let of_run = outcome_of_run r (setup_of start input r.settings) in
+    ap (λ (p : Result Assignment Status). answer_of p (image_from image_given.file r.settings.ram) (input_from input_given.file)) plan_given.is
+    ∙ ap (λ (l : Result Loaded Status). answer_of (Ok given) l (input_from input_given.file)) image_given.is
+    ∙ ap (λ (i : Result (List ℕ) Status). answer_of (Ok given) (Ok start) i) input_given.is in
+    let of_run = outcome_of_run r given.engines (setup_of start input r.settings) in
     let same : outcome r files ≡ of_run =
-    ap (λ (l : Result Loaded Status). outcome_of r l (input_from input_given.file)) image_given.is ∙ ap (λ (i : Result (List ℕ) Status). outcome_of r (Ok start) i) input_given.is in
+    ap (λ (p : Result Assignment Status). outcome_of r p (image_from image_given.file r.settings.ram) (input_from input_given.file)) plan_given.is
+    ∙ ap (λ (l : Result Loaded Status). outcome_of r (Ok given) l (input_from input_given.file)) image_given.is
+    ∙ ap (λ (i : Result (List ℕ) Status). outcome_of r (Ok given) (Ok start) i) input_given.is in
     let By : Status → Type 0 = λ e. IsAnswer e answer in
     let Quiet : ℕ → Type 0 = λ n. IsCalm n new.write_faults in
     let All : Outcome → Type 0 = λ o. Leaves o old new in
     let Part : Outcome → Type 0 = λ o. LeavesPart o old new in
     let is = run_answers answer of in
+    let answered : IsAnswer (expected r files) answer = subst By (sym ends) is in
     record {
       files = files;
-      told = told_sources old.held r image_given.file input_given.file image_given.told input_given.told;
-      answers = given_answers image_given.file r.settings.ram start (expected r files) answer image_given.is (subst By (sym ends) is);
+      told = told_sources old.held r plan_given.file image_given.file input_given.file plan_given.told image_given.told input_given.told;
+      answers = first_answers r.plan plan_given.file image_given.file given (expected r files) answer plan_given.is answered
+          (λ unnamed. given_answers image_given.file r.settings.ram start (expected r files) answer image_given.is answered);
       completes = λ expects calm quiet.
           ended_by answer is (run_read answer of)
           (calm_unfailed mid.write_faults new.write_faults (answer ≡ status.WriteFault) left.cause (subst Quiet (sym took.write_faults) quiet));
@@ -258,6 +328,7 @@ does_run r old mid new start input answer Fails image_given input_given took of 
           record { said = none.said ∙ took.said; written = none.written ∙ took.written };
       others = writes_from old.written mid.written new.written r.trace (λ was is. Unit {0}) took.written others;
       held = left.held ∙ took.held;
+      long_plan = λ n is_long. absurd (let At : Status → Type 0 = IsOfRun in subst At is_long of);
       long_image = λ n is_long. absurd (let At : Status → Type 0 = IsOfRun in subst At is_long of);
       long_input = λ n is_long. absurd (let At : Status → Type 0 = IsOfRun in subst At is_long of);
     }
@@ -291,6 +362,12 @@ refusal_used why is same = subst IsRefusal same is
 pub run_used : (answer : Status) → IsOfRun answer → answer ≢ status.Usage
 run_used answer of same = subst IsOfRun same of
 
+pub refusal_remembers_plan : (why : Status) → IsRefusal why → why ≢ status.PlanRefused plan.OutOfMemory
+refusal_remembers_plan why is same = subst IsRefusal same is
+
+pub run_remembers_plan : (answer : Status) → IsOfRun answer → answer ≢ status.PlanRefused plan.OutOfMemory
+run_remembers_plan answer of same = subst IsOfRun same of
+
 pub refusal_remembers : (why : Status) → IsRefusal why → why ≢ status.ImageRefused image.OutOfMemory
 refusal_remembers why is same = subst IsRefusal same is
 
@@ -298,11 +375,11 @@ pub run_remembers : (answer : Status) → IsOfRun answer → answer ≢ status.I
 run_remembers answer of same = subst IsOfRun same of
 
 -- What the player leaves is the outcome of its run.
-pub outcome_is : (r : Reading) (setup : Setup) (player : Player) (bytes : List ℕ) (events : List Event) (tail : List TailLine)
-    → IsAt setup (reach setup (names_played setup r.order)) player → bytes ≡ sent_bytes (reach setup (names_played setup r.order)).devices
+pub outcome_is : (plan : declared.Plan) (r : Reading) (setup : Setup) (player : Player) (bytes : List ℕ) (events : List Event) (tail : List TailLine)
+    → IsAt plan setup (reach setup (names_played setup r.order)) player → bytes ≡ sent_bytes (reach setup (names_played setup r.order)).devices
     → events ≡ player.run.events.events → tail ≡ tail_of setup (reach setup (names_played setup r.order))
-    → outcome_with bytes r.trace (whole_text (settings_of setup) events tail) ≡ outcome_of_run r setup
-outcome_is r setup player bytes events tail at sent same_events same_tail =
+    → outcome_with bytes r.trace (whole_text (settings_of setup) events tail) ≡ outcome_of_run r (shown plan).engines setup
+outcome_is plan r setup player bytes events tail at sent same_events same_tail =
     let text = whole_text (settings_of setup) events tail in
-    ap (λ (said : List ℕ). outcome_with said r.trace text) (sent ∙ sym (console_is setup r.order))
-    ∙ ap (λ (t : List ℕ). outcome_with (console (journal_of setup r.order)) r.trace t) (sym (trace_is setup r.order player events tail at same_events same_tail))
+    ap (λ (said : List ℕ). outcome_with said r.trace text) (sent ∙ sym (console_is (shown plan).engines setup r.order))
+    ∙ ap (λ (t : List ℕ). outcome_with (console (journal_of (shown plan).engines setup r.order)) r.trace t) (sym (trace_is plan setup r.order player events tail at same_events same_tail))

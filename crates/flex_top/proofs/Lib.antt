@@ -2,6 +2,7 @@ pub mod Images
 pub mod Doing
 pub mod WhatIsLeft
 pub mod Taking
+pub mod Plans
 pub mod Told
 pub mod WordsLemmas
 pub mod Pages

@@ -12,7 +12,7 @@ use Rattle.flex_base.specs.Place.{UART}
 use Rattle.flex_base.specs.StoryTree.{Want, Asks, Ends, IsOver, IsParked}
 use Rattle.flex_base.specs.Reservations.{asked}
 use Rattle.flex_base.specs.Devices.{is_transmit, sent_bytes, device_stop}
-use Rattle.transplant_plan.specs.Assignment.{default_plan}
+use Rattle.transplant_plan.specs.Shown.{shown}
 use Rattle.flex_base.specs.Unsplit.{Machine, Made, Instruction, story_of, instruction_at, instruction_from, instruction_after, want_of, next_of, resumes, is_woken_in, reply_to, begin, step, reach, make, makes, does, hart_numbers, is_idle, has_ended}
 use Rattle.flex_base.specs.Rounds.{turn_of}
 use Rattle.transplant_plan.specs.Split.{Plan, split_event, split_run, first_split}
@@ -34,7 +34,8 @@ use Rattle.hart_story.proofs.Needing.{wants_asked, parked_asked}
 use Rattle.devices.specs.View.{DevicesView, ConsoleView, has_room, HasRoom, most_kept}
 use Rattle.flex_top.specs.Memory.{Serves, ram_after, devices_after}
 use Rattle.flex_top.specs.declared.memory.Memory.{Memory}
-use Rattle.flex_top.specs.Splitting.{splitting_of}
+use Rattle.transplant_plan.specs.declared.plan.Plan as declared
+use Rattle.flex_top.specs.Splitting.{splitting_of, engines_by}
 use Rattle.flex_top.specs.Play.{IsHart, IsReached, IsAt, TellsIdle, progress_at, layout_of}
 use Rattle.tracer.specs.Trace.{settings_of}
 use Rattle.flex_top.specs.declared.player.Player.{Player}
@@ -101,9 +102,9 @@ some_room c most keeps room few less =
     let tested : nat_lt (length c.sent) c.room ≡ true = grind (arith, nat_tests) in
     ap (λ b. not b || nat_lt (length c.sent) c.room) keeps ∙ tested
 
-pub room_next : (setup : Setup) (u : Machine) (h : ℕ) (access : Access) (player : Player) → h < setup.harts → IsAt setup u player → next_of setup u h ≡ Asks access
+pub room_next : (plan : declared.Plan) (setup : Setup) (u : Machine) (h : ℕ) (access : Access) (player : Player) → h < setup.harts → IsAt plan setup u player → next_of setup u h ≡ Asks access
     → HasRoom player.memory.devices access
-room_next setup u h access player below at e = elim (makes_next setup u h access e) [
+room_next plan setup u h access player below at e = elim (makes_next setup u h access e) [
   | inl asks ↦ room_by player.memory.devices access (λ transmits.
       let Wants : Machine → Type 0 = λ m. want_of setup m h ≡ Asks access in
       let fewer = sent_room setup at.reached.order h access below (subst Wants at.reached.is asks) transmits in
@@ -144,10 +145,10 @@ pub far_read : (player : Player) (h : ℕ) (far : Progress) → h < length playe
 far_read player h far within same = get_or_default player.progress.items h begun far within ∙ sym same
 
 -- what was read of the player's hart of this number stands for it
-pub in_hart : (setup : Setup) (u : Machine) (player : Player) (h : ℕ) (hart : Hart) (far : Progress) (layout : Layout) → IsAt setup u player → h < setup.harts
+pub in_hart : (plan : declared.Plan) (setup : Setup) (u : Machine) (player : Player) (h : ℕ) (hart : Hart) (far : Progress) (layout : Layout) → IsAt plan setup u player → h < setup.harts
     → hart ≡ get_or player.harts.items h hart → far ≡ get_or player.progress.items h far → layout ≡ layout_of player.settings
     → IsIn setup (instruction_at u h) hart far layout player.settings.budget
-in_hart setup u player h hart far layout at below same_hart same_far same_layout =
+in_hart plan setup u player h hart far layout at below same_hart same_far same_layout =
     let in_progress : h < length player.progress.items = omega (arith, below, at.progress) in
     let AtHart : Hart → Type 0 = λ x. IsIn setup (instruction_at u h) x (progress_at player h) (layout_of (settings_of setup)) setup.budget in
     let AtFar : Progress → Type 0 = λ x. IsIn setup (instruction_at u h) hart x (layout_of (settings_of setup)) setup.budget in
@@ -156,9 +157,9 @@ in_hart setup u player h hart far layout at below same_hart same_far same_layout
     subst Of (sym same_layout) (subst At (sym at.settings) (subst AtFar (far_read player h far in_progress same_far) (subst AtHart (sym same_hart) (at.each h hart below))))
 
 -- the same, by the settings of the run
-pub in_setup : (setup : Setup) (u : Machine) (player : Player) (i : Instruction) (hart : Hart) (far : Progress) (layout : Layout) → IsAt setup u player → layout ≡ layout_of player.settings
+pub in_setup : (plan : declared.Plan) (setup : Setup) (u : Machine) (player : Player) (i : Instruction) (hart : Hart) (far : Progress) (layout : Layout) → IsAt plan setup u player → layout ≡ layout_of player.settings
     → IsIn setup i hart far layout player.settings.budget → IsIn setup i hart far (layout_of (settings_of setup)) setup.budget
-in_setup setup u player i hart far layout at same_layout there =
+in_setup plan setup u player i hart far layout at same_layout there =
     let Of : Layout → Type 0 = λ l. IsIn setup i hart far l player.settings.budget in
     let At : Settings → Type 0 = λ s. IsIn setup i hart far (layout_of s) s.budget in
     subst At at.settings (subst Of same_layout there)
@@ -174,13 +175,13 @@ hart_is setup v h i hart hart' far far' same same_hart same_far there =
     subst AtFar (sym same_far) (subst AtHart (sym same_hart) (subst AtInstruction (sym same) there))
 
 -- each hart, by whether it is the one that stepped; the others are as they were
-each_by : (setup : Setup) (u v : Machine) (player next : Player) (h : ℕ) (i : Instruction) → IsAt setup u player
+each_by : (plan : declared.Plan) (setup : Setup) (u v : Machine) (player next : Player) (h : ℕ) (i : Instruction) → IsAt plan setup u player
     → v.harts ≡ set u.harts h i
     → ((k : ℕ) (other : Hart) → k ≢ h → get_or next.harts.items k other ≡ get_or player.harts.items k other)
     → ((k : ℕ) → k ≢ h → progress_at next k ≡ progress_at player k)
     → ((other : Hart) → IsHart setup v h (get_or next.harts.items h other) (progress_at next h))
     → (k : ℕ) (other : Hart) → k < setup.harts → IsHart setup v k (get_or next.harts.items k other) (progress_at next k)
-each_by setup u v player next h i at instructions harts fars here k other below = elim (cases_eq k h) [
+each_by plan setup u v player next h i at instructions harts fars here k other below = elim (cases_eq k h) [
   | inl same ↦
       let At : ℕ → Type 0 = λ j. IsHart setup v j (get_or next.harts.items j other) (progress_at next j) in
       subst At (sym same) (here other)
@@ -191,23 +192,33 @@ each_by setup u v player next h i at instructions harts fars here k other below 
 ]
 
 -- whether it makes no event by itself
-pub idle_at : (setup : Setup) (u : Machine) (player : Player) (h : ℕ) → IsAt setup u player → h < length player.harts.items
+pub idle_at : (plan : declared.Plan) (setup : Setup) (u : Machine) (player : Player) (h : ℕ) → IsAt plan setup u player → h < length player.harts.items
     → is_idle (want_of setup u h) ≡ (is_done (progress_at player h) || is_parked (progress_at player h))
-idle_at setup u player h at within =
+idle_at plan setup u player h at within =
     let hart = some_hart player.harts.items (omega (arith, within)) in
     idle_is setup (instruction_at u h) (get_or player.harts.items h hart) (progress_at player h) (layout_of (settings_of setup)) setup.budget (at.each h hart (omega (arith, within, at.harts)))
 
+-- the split run after one event more
+run_more : (plan : declared.Plan) (setup : Setup) (u : Machine) (player next : Player) (m : Made) → IsAt plan setup u player
+    → splitting_of next.run ≡ split_event (engines_by player.run) (splitting_of player.run) m
+    → split_run (shown plan).engines setup.harts (u.events ++ m ∷ []) ≡ splitting_of next.run
+run_more plan setup u player next m at run =
+    split_push (shown plan).engines setup.harts u.events m
+    ∙ ap (λ p. split_event (shown plan).engines p m) at.run
+    ∙ sym (ap (λ (p : declared.Plan). split_event (shown p).engines (splitting_of player.run) m) at.plan_is)
+    ∙ sym run
+
 -- The player after an access.
 
-pub at_access : (setup : Setup) (u : Machine) (player next : Player) (h : ℕ) (access : Access) (far : Progress) → h < setup.harts → IsAt setup u player → next_of setup u h ≡ Asks access
+pub at_access : (plan : declared.Plan) (setup : Setup) (u : Machine) (player next : Player) (h : ℕ) (access : Access) (far : Progress) → h < setup.harts → IsAt plan setup u player → next_of setup u h ≡ Asks access
     → ((other : Hart) → IsIn setup (instruction_after (instruction_at u h) (Asks access) (reply_to setup u h access)) (get_or player.harts.items h other) far (layout_of (settings_of setup)) setup.budget)
     → next.settings ≡ player.settings
     → next.harts.items ≡ player.harts.items → next.progress.items ≡ set player.progress.items h far
     → Serves setup (ram_after u.ram h access (reply_to setup u h access)) (devices_after u.devices h access (reply_to setup u h access)) next.memory
-    → length next.run.engines.items ≡ length player.run.engines.items
-    → splitting_of next.run ≡ split_event default_plan (splitting_of player.run) (does h (what.Acc access (reply_to setup u h access)))
-    → IsAt setup (step setup u h) next
-at_access setup u player next h access far below at asks hart same harts fars memory engines run =
+    → next.run.plan ≡ player.run.plan → length next.run.engines.items ≡ length player.run.engines.items
+    → splitting_of next.run ≡ split_event (engines_by player.run) (splitting_of player.run) (does h (what.Acc access (reply_to setup u h access)))
+    → IsAt plan setup (step setup u h) next
+at_access plan setup u player next h access far below at asks hart same harts fars memory planned engines run =
     let within : h < length u.harts = omega (arith, below, at.halves) in
     let in_progress : h < length player.progress.items = omega (arith, below, at.progress) in
     let reply = reply_to setup u h access in
@@ -221,7 +232,7 @@ at_access setup u player next h access far below at asks hart same harts fars me
     (ap (λ (xs : List Hart). get_or xs h other) harts)
     far_here
     (hart other) in
-    let At : Machine → Type 0 = λ m. IsAt setup m next in
+    let At : Machine → Type 0 = λ m. IsAt plan setup m next in
     let stepped = step_is setup u h (Asks access) below asks in
     let Reached : Machine → Type 0 = λ m. IsReached setup m in
     subst At (sym stepped) (record {
@@ -234,25 +245,26 @@ at_access setup u player next h access far below at asks hart same harts fars me
       harts = ap (λ (xs : List Hart). length xs) harts ∙ at.harts;
       progress = ap (λ (xs : List Progress). length xs) fars ∙ length-set player.progress.items h far ∙ at.progress;
       engines = engines ∙ at.engines;
-      each = each_by setup u v player next h after at refl
+      each = each_by plan setup u v player next h after at refl
           (λ k other apart. ap (λ (xs : List Hart). get_or xs k other) harts)
           (λ k apart. ap (λ (xs : List Progress). get_or xs k begun) fars ∙ get_or-set_other player.progress.items h k far begun apart)
           here;
-      run = split_push default_plan setup.harts u.events (does h (what.Acc access reply)) ∙ ap (λ p. split_event default_plan p (does h (what.Acc access reply))) at.run ∙ sym run;
+      plan_is = planned ∙ at.plan_is;
+      run = run_more plan setup u player next (does h (what.Acc access reply)) at run;
       memory = memory;
     })
 
 -- The player after an end.
 
-pub at_end : (setup : Setup) (u : Machine) (player next : Player) (h : ℕ) (made : EndPart) (after : State) (hart : Hart) (far : Progress) → h < setup.harts → IsAt setup u player → want_of setup u h ≡ Ends made after
+pub at_end : (plan : declared.Plan) (setup : Setup) (u : Machine) (player next : Player) (h : ℕ) (made : EndPart) (after : State) (hart : Hart) (far : Progress) → h < setup.harts → IsAt plan setup u player → want_of setup u h ≡ Ends made after
     → IsIn setup (instruction_from after) hart far (layout_of (settings_of setup)) setup.budget
     → next.settings ≡ player.settings
     → next.harts.items ≡ set player.harts.items h hart → next.progress.items ≡ set player.progress.items h far
     → next.memory ≡ player.memory
-    → length next.run.engines.items ≡ length player.run.engines.items
-    → splitting_of next.run ≡ split_event default_plan (splitting_of player.run) (does h (what.End made))
-    → IsAt setup (step setup u h) next
-at_end setup u player next h made after hart far below at ends there_in same harts fars memory engines run =
+    → next.run.plan ≡ player.run.plan → length next.run.engines.items ≡ length player.run.engines.items
+    → splitting_of next.run ≡ split_event (engines_by player.run) (splitting_of player.run) (does h (what.End made))
+    → IsAt plan setup (step setup u h) next
+at_end plan setup u player next h made after hart far below at ends there_in same harts fars memory planned engines run =
     let within : h < length u.harts = omega (arith, below, at.halves) in
     let in_progress : h < length player.progress.items = omega (arith, below, at.progress) in
     let in_harts : h < length player.harts.items = omega (arith, below, at.harts) in
@@ -264,7 +276,7 @@ at_end setup u player next h made after hart far below at ends there_in same har
     (ap (λ (xs : List Hart). get_or xs h other) harts ∙ get_or-set_same player.harts.items h hart other in_harts)
     far_here
     there_in in
-    let At : Machine → Type 0 = λ m. IsAt setup m next in
+    let At : Machine → Type 0 = λ m. IsAt plan setup m next in
     let stepped = step_is setup u h (Ends made after) below (next_ends setup u h made after ends) in
     let Reached : Machine → Type 0 = λ m. IsReached setup m in
     subst At (sym stepped) (record {
@@ -277,10 +289,11 @@ at_end setup u player next h made after hart far below at ends there_in same har
       harts = ap (λ (xs : List Hart). length xs) harts ∙ length-set player.harts.items h hart ∙ at.harts;
       progress = ap (λ (xs : List Progress). length xs) fars ∙ length-set player.progress.items h far ∙ at.progress;
       engines = engines ∙ at.engines;
-      each = each_by setup u v player next h (instruction_from after) at refl
+      each = each_by plan setup u v player next h (instruction_from after) at refl
           (λ k other apart. ap (λ (xs : List Hart). get_or xs k other) harts ∙ get_or-set_other player.harts.items h k hart other apart)
           (λ k apart. ap (λ (xs : List Progress). get_or xs k begun) fars ∙ get_or-set_other player.progress.items h k far begun apart)
           here;
-      run = split_push default_plan setup.harts u.events (does h (what.End made)) ∙ ap (λ p. split_event default_plan p (does h (what.End made))) at.run ∙ sym run;
+      plan_is = planned ∙ at.plan_is;
+      run = run_more plan setup u player next (does h (what.End made)) at run;
       memory = let Serving : Memory → Type 0 = λ m. Serves setup u.ram u.devices m in subst Serving (sym memory) at.memory;
     })

@@ -6,7 +6,8 @@ use Rattle.flex_base.specs.Loaded.{Loaded, image_fits}
 use Rattle.flex_base.specs.Limits.{is_lawful, mebibyte}
 use Rattle.flex_base.specs.Word.{is_multiple}
 use Rattle.flex_base.specs.State.{start}
-use Rattle.transplant_plan.specs.Assignment.{default_plan}
+use Rattle.transplant_plan.specs.Shown.{shown}
+use Rattle.transplant_plan.specs.declared.plan.Plan.{Plan}
 use Rattle.flex_base.specs.Unsplit.{Instruction, instruction_from, begin}
 use Rattle.transplant_plan.specs.Split.{Splitting}
 use Rattle.flex_base.specs.declared.class.Class.TheVariants as class
@@ -35,13 +36,13 @@ lawful_whole settings lawful = grind (arith, nat_tests)
 pub entry_aligned : (ram : ℕ) (image : Loaded) → image_fits ram image ≡ true → is_multiple image.entry 4 ≡ true
 entry_aligned ram image fits = grind (arith, nat_tests)
 
-pub starts : (image : Loaded) (input : List ℕ) (settings : Settings) (player : Player) (memory : Memory) → is_lawful settings ≡ true
+pub starts : (plan : Plan) (image : Loaded) (input : List ℕ) (settings : Settings) (player : Player) (memory : Memory) → is_lawful settings ≡ true
     → settings.harts * settings.budget ≤ 262144
-    → IsStarted player settings image.entry memory
+    → IsStarted player plan settings image.entry memory
     → is_multiple image.entry 4 ≡ true
     → Serves (setup_of image input settings) [] [] memory
-    → IsAt (setup_of image input settings) (begin (setup_of image input settings)) player
-starts image input settings player memory lawful ends begins aligned serves =
+    → IsAt plan (setup_of image input settings) (begin (setup_of image input settings)) player
+starts plan image input settings player memory lawful ends begins aligned serves =
     let setup = setup_of image input settings in
     let Served : Memory → Type 0 = λ m. Serves setup [] [] m in
     let each = λ (h : ℕ) (other : Hart) (below : h < setup.harts).
@@ -67,8 +68,9 @@ starts image input settings player memory lawful ends begins aligned serves =
       halves = length-map-range_with_len (λ h. instruction_from (start h image.entry)) 0 setup.harts;
       harts = begins.harts.size;
       progress = begins.progress.0;
-      engines = ap (λ (p : Splitting). length p.engines) begins.run ∙ length-map-range_with_len (λ h. default_plan h class.Fetch) 0 settings.harts;
+      engines = ap (λ (p : Splitting). length p.engines) begins.run ∙ length-map-range_with_len (λ h. (shown plan).engines h class.Fetch) 0 settings.harts;
       each = each;
-      run = split_none default_plan setup.harts ∙ sym begins.run;
+      plan_is = begins.plan_is;
+      run = split_none (shown plan).engines setup.harts ∙ sym begins.run;
       memory = subst Served (sym begins.memory_is) serves;
     }

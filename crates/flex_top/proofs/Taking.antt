@@ -20,14 +20,14 @@ use Rattle.flex_top.specs.declared.status.Status.TheVariants as status
 use Rattle.flex_top.proofs.Doing.{file_held, told_file}
 
 -- the file that was taken is the one of its name
-told_taken : (held : Option Files) (name file : List ℕ) (limit : ℕ) → Taken held name limit (Ok file) → IsFile held (Some name) (Some file)
+pub told_taken : (held : Option Files) (name file : List ℕ) (limit : ℕ) → Taken held name limit (Ok file) → IsFile held (Some name) (Some file)
 told_taken None name file limit took = tt
 told_taken (Some files) name file limit took = sym took
 
-within : (file : List ℕ) (limit : ℕ) → length file ≤ limit → nat_lt limit (length file) ≡ false
+pub within : (file : List ℕ) (limit : ℕ) → length file ≤ limit → nat_lt limit (length file) ≡ false
 within file limit fits = grind (arith, nat_tests)
 
-past : (file : List ℕ) (limit : ℕ) → limit < length file → nat_lt limit (length file) ≡ true
+pub past : (file : List ℕ) (limit : ℕ) → limit < length file → nat_lt limit (length file) ≡ true
 past file limit over = grind (arith, nat_tests)
 
 image_within : (file : List ℕ) (ram : ℕ) → length file ≤ image_limit → image_from (Some file) ram ≡ image_in file ram
@@ -84,12 +84,12 @@ pub wanting : (A : Type 0) (held : Option Files) (name : List ℕ) (limit : ℕ)
 wanting A held name limit means took = record { file = file_held held (Some name); told = told_file held (Some name); refuses = refuses_wanting A held name limit means took }
 
 -- a file of so many bytes, which may be any where files aren't told
-record IsLong (held : Option Files) (name : List ℕ) (n : ℕ) : Type 0 where
-  bytes : List ℕ
-  told : IsFile held (Some name) (Some bytes)
-  size : n ≡ length bytes
+pub record IsLong (held : Option Files) (name : List ℕ) (n : ℕ) : Type 0 where
+  pub bytes : List ℕ
+  pub told : IsFile held (Some name) (Some bytes)
+  pub size : n ≡ length bytes
 
-long_file : (held : Option Files) (name : List ℕ) (limit n : ℕ) → Taken held name limit (Err (fault.TooLong n)) → IsLong held name n
+pub long_file : (held : Option Files) (name : List ℕ) (limit n : ℕ) → Taken held name limit (Err (fault.TooLong n)) → IsLong held name n
 long_file None name limit n took = record { bytes = replicate n 0; told = tt; size = sym (length-replicate n 0) }
 long_file (Some files) name limit n (bytes, is, same, over) = record { bytes = bytes; told = sym is; size = same }
 

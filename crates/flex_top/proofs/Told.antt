@@ -5,7 +5,7 @@ use Rattle.flex_base.specs.Files.{Files}
 use Rattle.flex_base.specs.Outside.{Outside}
 use Rattle.flex_top.specs.Words.{Reading}
 use Rattle.flex_top.specs.Answer.{Sources, sources_among, expected, outcome}
-use Rattle.flex_top.specs.Does.{Answers, IsCalm, IsEnded, Leaves, LeavesPart, Does}
+use Rattle.flex_top.specs.Does.{first_file, Answers, IsCalm, IsEnded, Leaves, LeavesPart, Does}
 use Rattle.flex_top.specs.declared.status.Status.{Status}
 use Rattle.flex_top.specs.declared.status.Status.TheVariants as status
 
@@ -19,8 +19,8 @@ ends_told None r files same ends = absurd ends
 ends_told (Some told) r files same ends = ap (expected r) same ∙ ends
 
 pub answers_told : (r : Reading) (old : Outside) (answer : Status) (new : Outside) → Does r old answer new
-    → IfSome old.held (λ files. Answers (files r.image) (expected r (sources_among r files)) answer)
-answers_told r old answer new does = by_told old.held r does.files (λ files. Answers files.image (expected r files) answer) does.told does.answers
+    → IfSome old.held (λ files. Answers (first_file r (sources_among r files)) (expected r (sources_among r files)) answer)
+answers_told r old answer new does = by_told old.held r does.files (λ files. Answers (first_file r files) (expected r files) answer) does.told does.answers
 
 pub completes_told : (r : Reading) (old : Outside) (answer : Status) (new : Outside) → Does r old answer new
     → IsSomeAnd old.held (λ files. expected r (sources_among r files) ≡ status.Ended) → IsCalm old.read_faults new.read_faults → IsCalm old.write_faults new.write_faults → IsEnded answer

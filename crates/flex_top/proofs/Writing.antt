@@ -1,21 +1,23 @@
 -- The text that is written is the trace of the run that was played, and what is known of each run.
-use Rattle.std.proofs.Common.{◌≡◌, ℕ, ◌+◌, ◌<◌, List, [], map, refl, ap, sym, ◌∙◌}
+use Rattle.std.proofs.Common.{◌≡◌, ℕ, ◌+◌, ◌<◌, List, [], Some, map, refl, ap, sym, ◌∙◌}
 use Rattle.std.specs.List.{range_with_len}
 use Rattle.flex_base.specs.Place.{ram_base}
 use Rattle.flex_base.specs.Setup.{Setup}
 use Rattle.flex_base.specs.Devices.{sent_bytes}
 use Rattle.flex_base.specs.FlatMemory.{byte}
-use Rattle.transplant_plan.specs.Assignment.{default_plan}
-use Rattle.flex_base.specs.Unsplit.{Machine, reach, has_ended}
+use Rattle.transplant_plan.specs.Shown.{shown}
+use Rattle.transplant_plan.specs.declared.plan.Plan as declared
+use Rattle.flex_base.specs.Unsplit.{Machine, unsplit, reach, has_ended}
 use Rattle.flex_base.specs.Rounds.{names_played}
 use Rattle.transplant_plan.specs.Split.{Splitting, Plan, split_run, first_split}
-use Rattle.flex_base.specs.Journal.{console}
+use Rattle.flex_base.specs.Journal.{console, strip}
 use Rattle.flex_base.specs.declared.event.Event.{Event}
-use Rattle.transplant_plan.proofs.Splits.{reach-order_of, split_legal}
+use Rattle.transplant_plan.proofs.Splits.{reach-order_of, split_legal, strip-split-unsplit}
 use Rattle.transplant_plan.proofs.Obeying.{split_obeys}
 use Rattle.flex_base.proofs.EndOfRun.{run_goes_on}
 use Rattle.transplant_plan.proofs.Splits.{console_devices}
-use Rattle.flex_top.specs.Answer.{journal_of, trace_of, IsWhole}
+use Rattle.flex_top.specs.Words.{Reading}
+use Rattle.flex_top.specs.Answer.{journal_of, trace_of, IsWhole, outcome_of_run, IsLeft, SplitsAlike}
 use Rattle.flex_top.specs.Play.{IsAt}
 use Rattle.tracer.specs.Trace.{settings_of, ram_bytes, tail_of, whole_text, trace_text}
 use Rattle.flex_top.specs.declared.player.Player.{Player}
@@ -30,26 +32,57 @@ pub ram_is : (setup : Setup) (u : Machine) (bytes : List ℕ) → bytes ≡ map 
 unfolding ram_bytes
 ram_is setup u bytes same = same
 
--- the trace of a run, by what the player keeps
-pub trace_is : (setup : Setup) (order : List ℕ) (player : Player) (events : List Event) (tail : List TailLine) → IsAt setup (reach setup (names_played setup order)) player
-    → events ≡ player.run.events.events → tail ≡ tail_of setup (reach setup (names_played setup order))
-    → trace_of setup order ≡ whole_text (settings_of setup) events tail
+-- the trace of a run is the header, a line of each event of its journal, and the tail of the state to which it leads
+trace_text_is : (plan : Plan) (setup : Setup) (order : List ℕ)
+    → trace_of plan setup order ≡ whole_text (settings_of setup) (journal_of plan setup order) (tail_of setup (reach setup (names_played setup order)))
 unfolding trace_of trace_text journal_of
-trace_is setup order player events tail at same_events same_tail =
-    ap (λ m. whole_text (settings_of setup) (journal_of setup order) (tail_of setup m)) (reach-order_of setup default_plan (names_played setup order))
-    ∙ ap (whole_text (settings_of setup) (journal_of setup order)) (sym same_tail)
+trace_text_is plan setup order =
+    ap (λ m. whole_text (settings_of setup) (journal_of plan setup order) (tail_of setup m)) (reach-order_of setup plan (names_played setup order))
+
+-- the trace of a run, by what the player keeps
+pub trace_is : (plan : declared.Plan) (setup : Setup) (order : List ℕ) (player : Player) (events : List Event) (tail : List TailLine) → IsAt plan setup (reach setup (names_played setup order)) player
+    → events ≡ player.run.events.events → tail ≡ tail_of setup (reach setup (names_played setup order))
+    → trace_of (shown plan).engines setup order ≡ whole_text (settings_of setup) events tail
+unfolding journal_of
+trace_is plan setup order player events tail at same_events same_tail =
+    trace_text_is (shown plan).engines setup order
+    ∙ ap (whole_text (settings_of setup) (journal_of (shown plan).engines setup order)) (sym same_tail)
     ∙ ap (λ es. whole_text (settings_of setup) es tail) (ap (λ (p : Splitting). p.events) at.run ∙ sym same_events)
 
 -- its console bytes are those that the devices have sent
-pub console_is : (setup : Setup) (order : List ℕ) → console (journal_of setup order) ≡ sent_bytes (reach setup (names_played setup order)).devices
+pub console_is : (plan : Plan) (setup : Setup) (order : List ℕ) → console (journal_of plan setup order) ≡ sent_bytes (reach setup (names_played setup order)).devices
 unfolding journal_of
-console_is setup order = console_devices setup default_plan (names_played setup order)
+console_is plan setup order = console_devices setup plan (names_played setup order)
 
 -- each run with a hart is whole
-pub run_whole : (setup : Setup) (order : List ℕ) → 0 < setup.harts → IsWhole setup order
+pub run_whole : (plan : Plan) (setup : Setup) (order : List ℕ) → 0 < setup.harts → IsWhole plan setup order
 unfolding journal_of
-run_whole setup order some = record {
-  legal = split_legal setup default_plan (names_played setup order);
-  obeys = split_obeys setup default_plan (names_played setup order);
-  ended = ap (has_ended setup) (reach-order_of setup default_plan (names_played setup order)) ∙ (run_goes_on setup order some).ends;
+run_whole plan setup order some = record {
+  legal = split_legal setup plan (names_played setup order);
+  obeys = split_obeys setup plan (names_played setup order);
+  ended = ap (has_ended setup) (reach-order_of setup plan (names_played setup order)) ∙ (run_goes_on setup order some).ends;
+}
+
+-- Two plans.
+
+-- without handovers, engines and numbers a journal is what the unsplit machine does
+stripped : (plan : Plan) (setup : Setup) (order : List ℕ) → strip (journal_of plan setup order) ≡ unsplit setup (names_played setup order)
+unfolding journal_of
+stripped plan setup order = strip-split-unsplit setup plan (names_played setup order)
+
+-- what is left by the run of a plan
+left_is : (r : Reading) (setup : Setup) (plan : Plan)
+    → IsLeft r setup (outcome_of_run r plan setup) (sent_bytes (reach setup (names_played setup r.order)).devices) (journal_of plan setup r.order) (tail_of setup (reach setup (names_played setup r.order)))
+left_is r setup plan = record {
+  said_is = console_is plan setup r.order;
+  file_is = ap (λ (text : List ℕ). Some (r.trace, text)) (trace_text_is plan setup r.order);
+}
+
+pub splits_alike : (r : Reading) (setup : Setup) (one other : Plan) → SplitsAlike r setup one other
+splits_alike r setup one other = record {
+  said = sent_bytes (reach setup (names_played setup r.order)).devices;
+  tail = tail_of setup (reach setup (names_played setup r.order));
+  left = left_is r setup one;
+  other_left = left_is r setup other;
+  events = stripped one setup r.order ∙ sym (stripped other setup r.order);
 }

@@ -3,11 +3,12 @@ use Rattle.std.specs.Prelude.{◌≡◌, ◌≢◌, ℕ, ◌-◌, ◌^◌, ◌<�
 use Rattle.flex_base.specs.Files.{Counts, Said, SaidPart}
 use Rattle.flex_base.specs.Outside.{Outside, Writes, Says}
 use Rattle.flex_top.specs.Words.{Reading}
-use Rattle.flex_top.specs.Answer.{Sources, sources_among, Outcome, expected, outcome, image_limit, input_limit}
+use Rattle.flex_top.specs.Answer.{Sources, sources_among, Outcome, expected, outcome, plan_limit, image_limit, input_limit}
 use Rattle.flex_top.specs.Written.{Becomes, BecomesPart}
 use Rattle.flex_top.specs.declared.status.Status.{Status}
 use Rattle.flex_top.specs.declared.status.Status.TheVariants as status
 use Rattle.image_loader.specs.declared.fault.ImageFault.TheVariants as image
+use Rattle.transplant_plan.specs.declared.fault.PlanFault.TheVariants as plan
 
 -- the answer is the expected one, unless a fault of the outside or want of memory came before
 abbrev pub IsAnswer : Status → Status → Type 0
@@ -16,7 +17,16 @@ IsAnswer expected status.OutOfMemory = Unit {0}
 IsAnswer expected status.WriteFault = expected ≡ status.Ended
 IsAnswer expected answer = answer ≡ expected
 
--- where the image's file is missing, nothing comes before
+-- the plan's file where one is named, or the other
+abbrev pub first_named : Option (List ℕ) → Option (List ℕ) → Option (List ℕ) → Option (List ℕ)
+first_named None plan image = image
+first_named (Some name) plan image = plan
+
+-- the file that is read first: the plan's, where one is named, or the image's
+abbrev pub first_file : Reading → Sources → Option (List ℕ)
+first_file r files = first_named r.plan files.plan files.image
+
+-- where it is missing, nothing comes before
 abbrev pub Answers : Option (List ℕ) → Status → Status → Type 0
 Answers None expected answer = answer ≡ expected
 Answers (Some file) expected answer = IsAnswer expected answer
@@ -67,7 +77,7 @@ pub record Does (r : Reading) (old : Outside) (answer : Status) (new : Outside) 
   pub files : Sources
   pub told : IfSome old.held (λ held. files ≡ sources_among r held)
   -- the answer that they lead to, and that it comes where the outside has no fault
-  pub answers : Answers files.image (expected r files) answer
+  pub answers : Answers (first_file r files) (expected r files) answer
   pub completes : expected r files ≡ status.Ended → IsCalm old.read_faults new.read_faults
       → IsCalm old.write_faults new.write_faults → IsEnded answer
   -- what is left of their outcome once it has ended, and where a write failed
@@ -78,6 +88,7 @@ pub record Does (r : Reading) (old : Outside) (answer : Status) (new : Outside) 
   pub others : Writes old new r.trace (λ was is. Unit {0})
   pub held : new.held ≡ old.held
   -- a file that is too long is so
+  pub long_plan : (n : ℕ) → answer ≡ status.PlanRefused (plan.TooLong n) → plan_limit < n
   pub long_image : (n : ℕ) → answer ≡ status.ImageRefused (image.TooLong n) → image_limit < n
   pub long_input : (n : ℕ) → answer ≡ status.InputTooLong n → input_limit < n
 

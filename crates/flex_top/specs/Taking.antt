@@ -1,11 +1,14 @@
--- A file that is taken, and what it means: an image or an input, or the refusal of it.
+-- A file that is taken, and what it means: a plan, an image or an input, or the refusal of it.
 use Rattle.std.specs.Prelude.{◌≡◌, ℕ, ◌<◌, List, Option, None, Some, IfSome, Result, Ok, Err}
 use Rattle.flex_base.specs.Files.{Files}
 use Rattle.flex_base.specs.Loaded.{Loaded}
 use Rattle.image_loader.specs.Loading.{IsSameStart}
 use Rattle.image_loader.specs.declared.fault.ImageFault.{ImageFault}
 use Rattle.image_loader.specs.declared.fault.ImageFault.TheVariants as image
-use Rattle.flex_top.specs.Answer.{file_among, image_limit, image_from, input_limit}
+use Rattle.transplant_plan.specs.Assignment.{Assignment}
+use Rattle.transplant_plan.specs.declared.fault.PlanFault.{PlanFault}
+use Rattle.transplant_plan.specs.declared.fault.PlanFault.TheVariants as plan
+use Rattle.flex_top.specs.Answer.{file_among, plan_limit, plan_from, image_limit, image_from, input_limit}
 use Rattle.flex_top.specs.declared.status.Status.{Status}
 use Rattle.flex_top.specs.declared.status.Status.TheVariants as status
 
@@ -38,10 +41,18 @@ pub record GivesImage (held : Option Files) (name : List ℕ) (ram : ℕ) (image
   pub gives : Gives Loaded held (Some name) (λ file. image_from file ram) start
   pub same : IsSameStart start image
 
--- a status that refuses a file: one that is too long is so, and want of memory is no refusal of an image
+-- the file of this name is no plan; where none is named, none is refused
+abbrev pub IsPlanRefused : Option Files → Option (List ℕ) → Status → Type 0
+IsPlanRefused held None why = ⊥
+IsPlanRefused held (Some name) why = IsRefused Assignment held (Some name) plan_from why
+
+-- a status that refuses a file: one that is too long is so, and want of memory is no refusal of a plan or an image
 abbrev pub IsRefusal : Status → Type 0
 IsRefusal status.ReadFault = Unit {0}
 IsRefusal status.OutOfMemory = Unit {0}
+IsRefusal (status.PlanRefused (plan.TooLong n)) = plan_limit < n
+IsRefusal (status.PlanRefused plan.OutOfMemory) = ⊥
+IsRefusal (status.PlanRefused why) = Unit {0}
 IsRefusal (status.ImageRefused (image.TooLong n)) = image_limit < n
 IsRefusal (status.ImageRefused image.OutOfMemory) = ⊥
 IsRefusal (status.ImageRefused why) = Unit {0}
@@ -52,6 +63,11 @@ IsRefusal other = ⊥
 abbrev pub answer_to : ImageFault → Status
 answer_to image.OutOfMemory = status.OutOfMemory
 answer_to why = status.ImageRefused why
+
+-- the answer to one that is no plan
+abbrev pub answer_to_plan : PlanFault → Status
+answer_to_plan plan.OutOfMemory = status.OutOfMemory
+answer_to_plan why = status.PlanRefused why
 
 -- an answer of a run whose files aren't refused
 abbrev pub IsOfRun : Status → Type 0

@@ -8,12 +8,13 @@ use Rattle.flex_top.specs.declared.words.Command.{Command}
 use Rattle.flex_top.specs.declared.words.Given.{Given}
 use Rattle.flex_top.specs.declared.words.Given.TheVariants as as_given
 
--- what `solo` is asked to do: the names of the image and the trace, the settings, the name of the console's input where
--- there is one, and the harts that make the next events before the rounds
+-- what `solo` is asked to do: the names of the image and the trace, the settings, the names of the plan and of the console's
+-- input where there are any, and the harts that make the next events before the rounds
 pub record Reading : Type 0 where
   pub image : List ℕ
   pub trace : List ℕ
   pub settings : Settings
+  pub plan : Option (List ℕ)
   pub input : Option (List ℕ)
   pub order : List ℕ
 
@@ -78,39 +79,41 @@ abbrev pub named : List ℕ → Option (Option (List ℕ))
 named [] = None
 named (first ∷ rest) = Some (Some (first ∷ rest))
 
--- the name that `--input=` gives, or none
-abbrev pub input_option : List (List ℕ) → Option (Option (List ℕ))
-input_option words = option_of None named (values (codes "--input=") words)
+-- the name that an option gives, or none
+abbrev pub name_option : List ℕ → List (List ℕ) → Option (Option (List ℕ))
+name_option name words = option_of None named (values name words)
 
 -- a word that begins with the text of one of the options
 abbrev pub is_option : List ℕ → Bool
 is_option word = starts_with nat_eq word (codes "--harts=") || starts_with nat_eq word (codes "--ram=")
-    || starts_with nat_eq word (codes "--budget=") || starts_with nat_eq word (codes "--input=")
-    || starts_with nat_eq word (codes "--order=")
+    || starts_with nat_eq word (codes "--budget=") || starts_with nat_eq word (codes "--plan=")
+    || starts_with nat_eq word (codes "--input=") || starts_with nat_eq word (codes "--order=")
 
 abbrev pub run_settings : ℕ → ℕ → ℕ → Settings
 run_settings harts ram budget = record { harts = harts; ram = ram; budget = budget }
 
 -- all harts together make at most 262,144 ends
-abbrev pub reading_of : List ℕ → List ℕ → Option ℕ → Option ℕ → Option ℕ → Option (Option (List ℕ)) → Option (List ℕ)
-    → Option Reading
-reading_of image trace (Some harts) (Some mebibytes) (Some budget) (Some input) (Some order) =
+abbrev pub reading_of : List ℕ → List ℕ → Option ℕ → Option ℕ → Option ℕ → Option (Option (List ℕ))
+    → Option (Option (List ℕ)) → Option (List ℕ) → Option Reading
+reading_of image trace (Some harts) (Some mebibytes) (Some budget) (Some plan) (Some input) (Some order) =
     if nat_le (harts * budget) 262144
     then Some (record {
       image = image;
       trace = trace;
       settings = run_settings harts (mebibyte * mebibytes) budget;
+      plan = plan;
       input = input;
       order = order;
     })
     else None
-reading_of image trace harts mebibytes budget input order = None
+reading_of image trace harts mebibytes budget plan input order = None
 
--- the options in any order: 1 hart, 16 MiB, 8,192 ends, no input and no order where they aren't given
+-- the options in any order: 1 hart, 16 MiB, 8,192 ends, no plan, no input and no order where they aren't given
 abbrev pub with_options : List ℕ → List ℕ → List (List ℕ) → Option Reading
 with_options image trace words = reading_of image trace (number_option (codes "--harts=") 1 32 words)
     (number_option (codes "--ram=") 16 256 words)
-    (number_option (codes "--budget=") 8192 262144 words) (input_option words) (order_option words)
+    (number_option (codes "--budget=") 8192 262144 words) (name_option (codes "--plan=") words)
+    (name_option (codes "--input=") words) (order_option words)
 
 abbrev pub is_solo : List ℕ → List ℕ → List ℕ → Bool
 is_solo command image trace = bytes_eq command (codes "solo") && is_name image && is_name trace
@@ -127,6 +130,7 @@ reading_of_command command = record {
   image = command.image.now;
   trace = command.trace.now;
   settings = command.settings;
+  plan = option_map (λ name. name.now) command.plan;
   input = option_map (λ name. name.now) command.input;
   order = map hart_of command.order.now;
 }

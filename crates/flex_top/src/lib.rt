@@ -22,6 +22,7 @@ mod words;
 pub use image_loader::ImageFault;
 pub use status::{Status, status_code, status_text};
 pub use top::flex_top;
+pub use transplant_plan::PlanFault;
 
 #[cfg(test)]
 mod tests;

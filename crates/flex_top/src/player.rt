@@ -11,6 +11,7 @@ use flex_base::{Access, Class, EndPart, HartId, Layout, Settings, Stop};
 use hart_story::{Hart, Need, Progress, finish_in_place, give, lead_in, need};
 use std::alloc::{AllocError, Global};
 use tracer::Tail;
+use transplant_plan::Plan;
 
 /// All harts of a run, what they reach, and the split run so far.
 #[derive(Drop)]
@@ -46,19 +47,20 @@ impl Player {
     ghost use Rattle.flex_top.specs.Play.{IsAt, IsStarted, AfterStep, IsTurned, IsNearer, Playing, TellsIdle, progress_at, layout_of};
     ghost use Rattle.hart_story.specs.Progress.{left};
 
-    // The harts at their start, at this entry, over this memory.
+    // The harts at their start, at this entry, over this memory, split by this plan.
     pub(crate) fn start(
         alloc: Global,
+        plan: Plan,
         settings: &Settings,
         entry: u64,
         memory: Memory,
     ) -> Result<Player, AllocError>
-        ensures { IfOk result (λ player. IsStarted player settings.now entry memory) }
+        ensures { IfOk result (λ player. IsStarted player plan settings.now entry memory) }
     {
         let harts = first_harts(alloc, settings.harts, entry)?;
         let begun = Progress::begin();
         let progress = vec![in alloc; begun; settings.harts as usize]?;
-        let run = SplitRun::new(alloc, settings.harts)?;
+        let run = SplitRun::new(alloc, plan, settings.harts)?;
         Ok(Player {
             settings: *settings,
             harts,
@@ -71,9 +73,9 @@ impl Player {
     // Plays the order, of hart numbers, and then the rounds until the run has ended. Each round of a
     // run that goes on has an event, so the events that there can be bound the rounds.
     pub(crate) fn play(&mut self, order: &[u8]) -> Result<(), AllocError>
-        requires at { (setup : Setup) × IsAt setup (begin setup) self.old }
-        ensures { (setup : Setup) → IsAt setup (begin setup) self.old
-            → OnOk result (IsAt setup (reach setup (names_played setup order.now)) self.new) }
+        requires at { (plan : Plan) × (setup : Setup) × IsAt plan setup (begin setup) self.old }
+        ensures { (plan : Plan) (setup : Setup) → IsAt plan setup (begin setup) self.old
+            → OnOk result (IsAt plan setup (reach setup (names_played setup order.now)) self.new) }
     {
         self.follow(order)?;
         'rounds: for _ in 0..self.most_rounds() {
@@ -87,8 +89,8 @@ impl Player {
 
     // As many rounds as there can be events: 10 for each end that a hart may make, and its retirement.
     fn most_rounds(&self) -> u64
-        requires { (setup : Setup) × (u : Machine) × IsAt setup u self.now }
-        ensures { (setup : Setup) (u : Machine) → IsAt setup u self.now → result ≡ most_rounds setup }
+        requires { (plan : Plan) × (setup : Setup) × (u : Machine) × IsAt plan setup u self.now }
+        ensures { (plan : Plan) (setup : Setup) (u : Machine) → IsAt plan setup u self.now → result ≡ most_rounds setup }
     {
         let harts = u64::from(self.settings.harts);
         10 * (harts * self.settings.budget) + harts
@@ -96,22 +98,22 @@ impl Player {
 
     // Makes these the lines of the trace after the events so far.
     pub(crate) fn fill_tail(&self, tail: &mut Tail)
-        requires { (setup : Setup) × (u : Machine) × IsAt setup u self.now }
-        ensures { (setup : Setup) (u : Machine) → IsAt setup u self.now → tail.new ≡ tail_of setup u }
+        requires { (plan : Plan) × (setup : Setup) × (u : Machine) × IsAt plan setup u self.now }
+        ensures { (plan : Plan) (setup : Setup) (u : Machine) → IsAt plan setup u self.now → tail.new ≡ tail_of setup u }
     {
         tail.fill(self.stop(), &self.harts, self.memory.lines.bytes());
     }
 
     // The bytes that were sent to the console.
     pub(crate) fn console(&self) -> &[u8]
-        ensures { (setup : Setup) (u : Machine) → IsAt setup u self.now → result.now ≡ sent_bytes u.devices }
+        ensures { (plan : Plan) (setup : Setup) (u : Machine) → IsAt plan setup u self.now → result.now ≡ sent_bytes u.devices }
     {
         self.memory.devices.console()
     }
 
     // Why the run stops, once a stop stands.
     fn stop(&self) -> Option<Stop>
-        ensures { (setup : Setup) (u : Machine) → IsAt setup u self.now → result ≡ device_stop setup.harts u.devices }
+        ensures { (plan : Plan) (setup : Setup) (u : Machine) → IsAt plan setup u self.now → result ≡ device_stop setup.harts u.devices }
     {
         self.memory.devices.stop()
     }
@@ -119,8 +121,8 @@ impl Player {
     // A stop stands, and each hart is over or waits, woken or not.
     #[inline(always)]
     fn has_ended(&self) -> bool
-        requires { (setup : Setup) × (u : Machine) × IsAt setup u self.now }
-        ensures { (setup : Setup) (u : Machine) → IsAt setup u self.now → result ≡ has_ended setup u }
+        requires { (plan : Plan) × (setup : Setup) × (u : Machine) × IsAt plan setup u self.now }
+        ensures { (plan : Plan) (setup : Setup) (u : Machine) → IsAt plan setup u self.now → result ≡ has_ended setup u }
     {
         self.stop().is_some() && self.are_idle()
     }
@@ -128,8 +130,8 @@ impl Player {
     // Whether no hart goes on by itself.
     #[cold]
     fn are_idle(&self) -> bool
-        requires { (setup : Setup) × (u : Machine) × IsAt setup u self.now }
-        ensures { (setup : Setup) (u : Machine) → IsAt setup u self.now → TellsIdle setup u result }
+        requires { (plan : Plan) × (setup : Setup) × (u : Machine) × IsAt plan setup u self.now }
+        ensures { (plan : Plan) (setup : Setup) (u : Machine) → IsAt plan setup u self.now → TellsIdle setup u result }
     {
         for h in 0..self.harts.len() {
             if !self.is_idle(h) {
@@ -142,17 +144,17 @@ impl Player {
     // Whether this hart is over or waits.
     fn is_idle(&self, h: usize) -> bool
         requires hart { h < length self.now.harts.items }
-        requires at { (setup : Setup) × (u : Machine) × IsAt setup u self.now }
-        ensures { (setup : Setup) (u : Machine) → IsAt setup u self.now → result ≡ is_idle (want_of setup u h) }
+        requires at { (plan : Plan) × (setup : Setup) × (u : Machine) × IsAt plan setup u self.now }
+        ensures { (plan : Plan) (setup : Setup) (u : Machine) → IsAt plan setup u self.now → result ≡ is_idle (want_of setup u h) }
     {
         self.progress[h].is_over() || self.progress[h].is_parked()
     }
 
     // The harts make their next events in this order.
     fn follow(&mut self, order: &[u8]) -> Result<(), AllocError>
-        requires at { (setup : Setup) × IsAt setup (begin setup) self.old }
-        ensures { (setup : Setup) → IsAt setup (begin setup) self.old
-            → OnOk result (IsAt setup (reach setup order.now) self.new) }
+        requires at { (plan : Plan) × (setup : Setup) × IsAt plan setup (begin setup) self.old }
+        ensures { (plan : Plan) (setup : Setup) → IsAt plan setup (begin setup) self.old
+            → OnOk result (IsAt plan setup (reach setup order.now) self.new) }
     {
         for h in order {
             self.next(*h)?;
@@ -162,8 +164,8 @@ impl Player {
 
     // The hart of this number makes its next event. A number without a hart is passed over.
     fn next(&mut self, h: u8) -> Result<(), AllocError>
-        requires at { (setup : Setup) × (u : Machine) × IsAt setup u self.old }
-        ensures { (setup : Setup) (u : Machine) → IsAt setup u self.old → OnOk result (IsAt setup (step setup u h) self.new) }
+        requires at { (plan : Plan) × (setup : Setup) × (u : Machine) × IsAt plan setup u self.old }
+        ensures { (plan : Plan) (setup : Setup) (u : Machine) → IsAt plan setup u self.old → OnOk result (IsAt plan setup (step setup u h) self.new) }
     {
         if (h as usize) < self.harts.len() {
             self.step(h as usize)?;
@@ -173,11 +175,11 @@ impl Player {
 
     // Each hart makes its turn, in rising order, unless the run has ended.
     fn round(&mut self) -> Result<(), AllocError>
-        requires { (setup : Setup) × (order : List ℕ) × (done : List ℕ) × (rest : List ℕ)
-            × Playing setup order done (hart_numbers setup ++ rest) self.old }
-        ensures { (setup : Setup) (order done rest : List ℕ)
-            → Playing setup order done (hart_numbers setup ++ rest) self.old
-            → OnOk result (Playing setup order (done ++ hart_numbers setup) rest self.new) }
+        requires { (plan : Plan) × (setup : Setup) × (order : List ℕ) × (done : List ℕ) × (rest : List ℕ)
+            × Playing plan setup order done (hart_numbers setup ++ rest) self.old }
+        ensures { (plan : Plan) (setup : Setup) (order done rest : List ℕ)
+            → Playing plan setup order done (hart_numbers setup ++ rest) self.old
+            → OnOk result (Playing plan setup order (done ++ hart_numbers setup) rest self.new) }
     {
         for h in 0..self.harts.len() {
             if !self.has_ended() {
@@ -190,8 +192,8 @@ impl Player {
     // Makes a hart's events up to and including its next end, or until it has none.
     pub(crate) fn turn(&mut self, h: usize) -> Result<(), AllocError>
         requires hart { h < length self.old.harts.items }
-        requires at { (setup : Setup) × (u : Machine) × IsAt setup u self.old }
-        ensures { (setup : Setup) (u : Machine) → IsAt setup u self.old → OnOk result (IsTurned setup u h self.new) }
+        requires at { (plan : Plan) × (setup : Setup) × (u : Machine) × IsAt plan setup u self.old }
+        ensures { (plan : Plan) (setup : Setup) (u : Machine) → IsAt plan setup u self.old → OnOk result (IsTurned plan setup u h self.new) }
     {
         'turn: loop {
             match self.step(h)? {
@@ -207,9 +209,9 @@ impl Player {
     #[inline(never)]
     pub(crate) fn step(&mut self, h: usize) -> Result<Step, AllocError>
         requires hart { h < length self.old.harts.items }
-        requires at { (setup : Setup) × (u : Machine) × IsAt setup u self.old }
-        ensures after { (setup : Setup) (u : Machine) → IsAt setup u self.old
-            → IfOk result (λ came. AfterStep setup u h came self.new) }
+        requires at { (plan : Plan) × (setup : Setup) × (u : Machine) × IsAt plan setup u self.old }
+        ensures after { (plan : Plan) (setup : Setup) (u : Machine) → IsAt plan setup u self.old
+            → IfOk result (λ came. AfterStep plan setup u h came self.new) }
         ensures nearer { IfOk result (λ came. IsNearer h came self.old self.new) }
     {
         let hart = HartId(h as u8);
@@ -247,10 +249,10 @@ impl Player {
     fn make_access(&mut self, h: usize, access: Access, class: Class) -> Result<(), AllocError>
         requires hart { h < length self.old.harts.items }
         requires class { class ≡ class_of_access access }
-        requires next { (setup : Setup) × (u : Machine) × IsAt setup u self.old × (next_of setup u h ≡ Asks access)
+        requires next { (plan : Plan) × (setup : Setup) × (u : Machine) × IsAt plan setup u self.old × (next_of setup u h ≡ Asks access)
             × IsPlaced setup.harts setup.ram access }
-        ensures at { (setup : Setup) (u : Machine) → IsAt setup u self.old → next_of setup u h ≡ Asks access
-            → OnOk result (IsAt setup (step setup u h) self.new) }
+        ensures at { (plan : Plan) (setup : Setup) (u : Machine) → IsAt plan setup u self.old → next_of setup u h ≡ Asks access
+            → OnOk result (IsAt plan setup (step setup u h) self.new) }
         ensures nearer { OnOk result (left (progress_at self.new h) < left (progress_at self.old h)) }
     {
         let hart = HartId(h as u8);

@@ -16,6 +16,7 @@ use flex_base::{Image, Settings};
 use mem_lines::Lines;
 use std::alloc::{AllocError, Global};
 use tracer::Tail;
+use transplant_plan::Plan;
 
 /// A run that is ready, with all memory that it needs but for its events: the harts at their start
 /// over RAM, the order as hart numbers, and the room for the trace.
@@ -27,10 +28,12 @@ pub(crate) struct Prepared {
     pub(crate) tail: Tail,
 }
 
-// Makes ready a run of an image with this input, in an order of which each character names a hart.
+// Makes ready a run of an image with this input under a plan, in an order of which each character
+// names a hart.
 // It is the run of each image with the same start. The error is want of memory.
 pub(crate) fn prepare(
     alloc: Global,
+    plan: Plan,
     image: Image,
     input: Vec<u8>,
     settings: &Settings,
@@ -40,13 +43,13 @@ pub(crate) fn prepare(
     requires few { settings.now.harts * settings.now.budget ≤ 262144 }
     requires fits { image_fits settings.now.ram image ≡ true }
     ensures { (start : Loaded) → IsSameStart start image
-        → IfOk result (λ run. IsPrepared (setup_of start input.items settings.now) (map hart_of order.now) run) }
+        → IfOk result (λ run. IsPrepared plan (setup_of start input.items settings.now) (map hart_of order.now) run) }
 {
     let pieces = Pieces::new(alloc)?;
     let tail = Tail::new(alloc)?;
     let order = harts_named(alloc, order)?;
     let memory = memory_of(alloc, &image, input, settings)?;
-    let player = Player::start(alloc, settings, image.entry, memory)?;
+    let player = Player::start(alloc, plan, settings, image.entry, memory)?;
     Ok(Prepared {
         player,
         order,

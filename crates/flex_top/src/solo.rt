@@ -2,6 +2,7 @@ ghost use Rattle.std.specs.Prelude.{◌≡◌, ◌≢◌, true, Ok};
 ghost use Rattle.flex_base.specs.Loaded.{Loaded, image_fits};
 ghost use Rattle.flex_base.specs.Outside.{Writes};
 ghost use Rattle.image_loader.specs.Loading.{IsSameStart};
+ghost use Rattle.transplant_plan.specs.Shown.{shown};
 ghost use Rattle.flex_top.specs.Answer.{setup_of, outcome_of_run};
 ghost use Rattle.flex_top.specs.Does.{Leaves, LeavesPart, LeavesNothing};
 ghost use Rattle.flex_top.specs.Taking.{IsOfRun};
@@ -14,12 +15,14 @@ use crate::status::Status;
 use crate::words::Command;
 use flex_base::{Failed, Image, Outer};
 use std::alloc::Global;
+use transplant_plan::Plan;
 
 // Plays the image with this input in the order that the command gives, says what the run sent to the
-// console, and writes its trace.
+// console, and writes its trace, split by the plan.
 pub(crate) fn solo<O: Outer>(
     alloc: Global,
     command: &Command,
+    plan: Plan,
     image: Image,
     input: Vec<u8>,
     outer: &mut O,
@@ -28,10 +31,10 @@ pub(crate) fn solo<O: Outer>(
     requires fits { image_fits command.now.settings.ram image ≡ true }
     ensures answer { IsOfRun result }
     ensures ended { (start : Loaded) → IsSameStart start image → result ≡ Status.Ended
-        → Leaves (outcome_of_run (reading_of_command command.now) (setup_of start input.items command.now.settings))
+        → Leaves (outcome_of_run (reading_of_command command.now) (shown plan).engines (setup_of start input.items command.now.settings))
         (O.outside outer.old) (O.outside outer.new) }
     ensures cut { (start : Loaded) → IsSameStart start image → result ≡ Status.WriteFault
-        → LeavesPart (outcome_of_run (reading_of_command command.now) (setup_of start input.items command.now.settings))
+        → LeavesPart (outcome_of_run (reading_of_command command.now) (shown plan).engines (setup_of start input.items command.now.settings))
         (O.outside outer.old) (O.outside outer.new) }
 
     ensures nothing { result ≢ Status.Ended → result ≢ Status.WriteFault
@@ -44,7 +47,14 @@ pub(crate) fn solo<O: Outer>(
         order,
         mut pieces,
         mut tail,
-    } = match prepare(alloc, image, input, &command.settings, command.order) {
+    } = match prepare(
+        alloc,
+        plan,
+        image,
+        input,
+        &command.settings,
+        command.order,
+    ) {
         Ok(prepared) => prepared,
         Err(_) => return Status::OutOfMemory,
     };

@@ -5,9 +5,10 @@ use flex_base::Line;
 use image_loader::ImageFault;
 use itoa::Buffer;
 use std::alloc::{AllocError, Global};
+use transplant_plan::PlanFault;
 
 /// What a command answers.
-#[derive(Clone, Copy, Debug, PartialEq, Eq)]
+#[derive(Debug, Drop)]
 pub enum Status {
     /// It did all that it was asked.
     Ended,
@@ -17,6 +18,8 @@ pub enum Status {
     ReadFault,
     /// The image can't be run.
     ImageRefused(ImageFault),
+    /// The plan can't be followed.
+    PlanRefused(PlanFault),
     OutOfMemory,
     /// A file couldn't be written.
     WriteFault,
@@ -33,6 +36,7 @@ pub fn status_code(status: &Status) -> u8
         Status::Usage => 1,
         Status::ReadFault => 2,
         Status::ImageRefused(_) => 3,
+        Status::PlanRefused(_) => 4,
         Status::OutOfMemory => 5,
         Status::WriteFault => 6,
         Status::InputTooLong(_) => 7,
@@ -71,6 +75,9 @@ fn push_meaning(line: &mut Line, status: &Status)
         Status::ReadFault => line.push(b"read fault"),
         Status::ImageRefused(fault) => {
             push_numbered(line, b"image refused ", fault.number().into());
+        }
+        Status::PlanRefused(fault) => {
+            push_numbered(line, b"plan refused ", fault.number().into());
         }
         Status::OutOfMemory => line.push(b"out of memory"),
         Status::WriteFault => line.push(b"write fault"),
@@ -113,7 +120,7 @@ mod tests {
                 "flexemu: input too long 18446744073709551615\n",
             ),
         ] {
-            assert_status(&rt, rt.alloc(), status, code, text)?;
+            assert_status(&rt, rt.alloc(), &status, code, text)?;
         }
         Ok(())
     }
@@ -140,7 +147,20 @@ mod tests {
             (ImageFault::TooLong(6), "flexemu: image refused 11\n"),
             (ImageFault::OutOfMemory, "flexemu: image refused 12\n"),
         ] {
-            assert_status(&rt, rt.alloc(), Status::ImageRefused(fault), 3, text)?;
+            assert_status(&rt, rt.alloc(), &Status::ImageRefused(fault), 3, text)?;
+        }
+        Ok(())
+    }
+
+    #[test]
+    fn says_each_fault_of_a_plan(rt: HostRuntime) -> Result<(), AllocError> {
+        for (fault, text) in [
+            (PlanFault::NotUtf8, "flexemu: plan refused 1\n"),
+            (PlanFault::NotToml, "flexemu: plan refused 2\n"),
+            (PlanFault::OutOfMemory, "flexemu: plan refused 7\n"),
+            (PlanFault::TooLong(65_537), "flexemu: plan refused 8\n"),
+        ] {
+            assert_status(&rt, rt.alloc(), &Status::PlanRefused(fault), 4, text)?;
         }
         Ok(())
     }
@@ -148,12 +168,12 @@ mod tests {
     fn assert_status(
         rt: &impl Abort,
         alloc: Global,
-        status: Status,
+        status: &Status,
         code: u8,
         text: &str,
     ) -> Result<(), AllocError> {
-        assert_eq!(rt; status_code(&status), code, "the code of {text}");
-        let said = status_text(alloc, &status)?;
+        assert_eq!(rt; status_code(status), code, "the code of {text}");
+        let said = status_text(alloc, status)?;
         assert!(rt; said.as_slice() == text.as_bytes(), "the text of {text}");
         Ok(())
     }

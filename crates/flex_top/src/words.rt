@@ -1,6 +1,6 @@
 ghost use Rattle.std.specs.Prelude.{◌≡◌, ◌<◌, ◌≤◌, List, ℕ, [], ◌∷◌, ◌++◌, map, length, Some, None, All, option_map, IfOk, IfSome, if◌then◌else◌, string_bytes};
 ghost use Rattle.std.specs.List.{list_all};
-ghost use Rattle.flex_top.specs.Words.{reading, with_options, reading_of_command, is_name, is_option, is_digit, number_of, number, hart_of, is_order, value_of, values, number_option, input_option, named, order_option, is_solo, IsGiven, IsLimited};
+ghost use Rattle.flex_top.specs.Words.{reading, with_options, reading_of_command, is_name, is_option, is_digit, number_of, number, hart_of, is_order, value_of, values, number_option, name_option, named, order_option, is_solo, IsGiven, IsLimited};
 
 use flex_base::Settings;
 use std::alloc::{AllocError, Global};
@@ -14,6 +14,8 @@ pub struct Command<'a> {
     pub trace: &'a str,
     /// The size of the run. All harts together make at most 262,144 ends.
     pub settings: Settings,
+    /// The name of the file that is the plan; where there is none, the plan is the default one.
+    pub plan: Option<&'a str>,
     /// The name of the file that is the console's input; where there is none, the input is empty.
     pub input: Option<&'a str>,
     /// Which harts make the next events before the rounds: at most 65,536 characters, each of
@@ -32,7 +34,8 @@ pub enum Given<'a> {
 const MEBIBYTE: u64 = 1_048_576;
 
 /// The command that these words are: `solo IMAGE TRACE`, and then any of the options `--harts=`,
-/// `--ram=`, `--budget=`, `--input=` and `--order=`, each at most once. Other words have no reading.
+/// `--ram=`, `--budget=`, `--plan=`, `--input=` and `--order=`, each at most once. Other words have no
+/// reading.
 pub fn read_words(words: &[String]) -> Option<Command<'_>>
     ensures reading { option_map reading_of_command result ≡ reading (map string_bytes words.now) }
     ensures limits { IfSome result IsLimited }
@@ -82,6 +85,7 @@ fn is_option(word: &[u8]) -> bool
     word.starts_with(b"--harts=")
         || word.starts_with(b"--ram=")
         || word.starts_with(b"--budget=")
+        || word.starts_with(b"--plan=")
         || word.starts_with(b"--input=")
         || word.starts_with(b"--order=")
 }
@@ -94,7 +98,8 @@ fn with_options<'a>(image: &'a str, trace: &'a str, words: &'a [String]) -> Opti
     let harts = number_option("--harts=", 1, 32, words)?;
     let mebibytes = number_option("--ram=", 16, 256, words)?;
     let budget = number_option("--budget=", 8192, 262_144, words)?;
-    let input = input_option(words)?;
+    let plan = name_option("--plan=", words)?;
+    let input = name_option("--input=", words)?;
     let order = order_option(words)?;
     if harts * budget > 262_144 {
         return None;
@@ -108,6 +113,7 @@ fn with_options<'a>(image: &'a str, trace: &'a str, words: &'a [String]) -> Opti
         image,
         trace,
         settings,
+        plan,
         input,
         order,
     })
@@ -128,11 +134,12 @@ fn number_option(name: &str, default: u64, most: u64, words: &[String]) -> Optio
     }
 }
 
-// The name that the option `--input=` gives, which isn't empty; no name where it isn't given.
-fn input_option(words: &[String]) -> Option<Option<&str>>
-    ensures { option_map (λ name. option_map (λ text. text.now) name) result ≡ input_option (map string_bytes words.now) }
+// The name of a file that an option gives, which isn't empty; no name where it isn't given.
+fn name_option<'a>(name: &str, words: &'a [String]) -> Option<Option<&'a str>>
+    ensures { option_map (λ name. option_map (λ text. text.now) name) result
+        ≡ name_option name.now (map string_bytes words.now) }
 {
-    match look_up("--input=", words) {
+    match look_up(name, words) {
         Given::Never => Some(None),
         Given::Once(name) if !name.is_empty() => Some(Some(name)),
         _ => None,

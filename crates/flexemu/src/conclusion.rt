@@ -24,7 +24,7 @@ pub(crate) fn conclude<W: Write>(alloc: Global, stderr: &mut W, status: &Status)
 #[cfg(test)]
 mod tests {
     use super::*;
-    use flex_top::ImageFault;
+    use flex_top::{ImageFault, PlanFault};
     use std::test::Fail;
 
     #[test]
@@ -42,6 +42,11 @@ mod tests {
                 Status::ImageRefused(ImageFault::TooLong(268_435_457)),
                 3,
                 "flexemu: image refused 11\n",
+            ),
+            (
+                Status::PlanRefused(PlanFault::NotToml),
+                4,
+                "flexemu: plan refused 2\n",
             ),
             (Status::OutOfMemory, 5, "flexemu: out of memory\n"),
             (Status::WriteFault, 6, "flexemu: write fault\n"),

@@ -1,5 +1,6 @@
 pub mod Names
 pub mod Assignment
+pub mod Faults
 pub mod PlanFile
 pub mod Planning
 pub mod Shown

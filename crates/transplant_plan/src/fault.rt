@@ -1,3 +1,6 @@
+ghost use Rattle.std.specs.Prelude.{◌≡◌};
+ghost use Rattle.transplant_plan.specs.Faults.{fault_number};
+
 use crate::names::{class_name, engine_name};
 use flex_base::{Class, Engine, Text};
 use std::alloc::AllocError;
@@ -31,6 +34,24 @@ pub enum PlanFault {
     /// The file has so many bytes, more than 65,536.
     #[error("the plan has {0} bytes")]
     TooLong(u64),
+}
+
+impl PlanFault {
+    /// The number of the fault among all, in the order above, from 1 on.
+    pub fn number(&self) -> u8
+        ensures { result ≡ fault_number self.now }
+    {
+        match self {
+            PlanFault::NotUtf8 => 1,
+            PlanFault::NotToml => 2,
+            PlanFault::UnknownKey(_) => 3,
+            PlanFault::UnknownEngine(_, _) => 4,
+            PlanFault::CannotRun(_, _) => 5,
+            PlanFault::BadCount(_, _) => 6,
+            PlanFault::OutOfMemory => 7,
+            PlanFault::TooLong(_) => 8,
+        }
+    }
 }
 
 impl From<AllocError> for PlanFault {

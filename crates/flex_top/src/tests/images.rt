@@ -1,7 +1,7 @@
 // ELF files: that the file and the size of RAM are passed on. What each field comes to is tested in `image_loader`.
 
-use super::{assert_image, run};
-use crate::status::Status;
+use super::{ENDED, assert_image, run};
+use crate::status::status_code;
 use image_loader::ImageFault;
 use std::alloc::{AllocError, Global};
 use std::test::Fail;
@@ -37,7 +37,7 @@ fn runs_an_elf_file(rt: HostRuntime) -> Result<(), Fail> {
     let file = file_with(rt.alloc(), 1, 0, 296)?;
     let line = "solo img out --ram=1 --budget=4";
     let (status, outer) = run(rt.alloc(), &file, line, &[])?;
-    assert_eq!(rt; status, Status::Ended);
+    assert_eq!(rt; status_code(&status), ENDED);
     let text = str::from_utf8(outer.written("out").unwrap_or(b"")).unwrap_or("");
     for want in [
         "\n0 0 p fetch 0000000080000004 00001297\n",
@@ -60,12 +60,12 @@ fn refuses_an_elf_file(rt: HostRuntime) -> Result<(), Fail> {
         (3, 0x8000_0002, 296, ImageFault::BadEntry(0x8000_0002)),
     ] {
         let file = file_with(alloc, place, word, length)?;
-        assert_image(&rt, alloc, &file, Status::ImageRefused(fault))?;
+        assert_image(&rt, alloc, &file, fault)?;
     }
     // The segment that lies outside 1 MiB of RAM lies in 2 MiB.
     let file = file_with(alloc, 18, 0x800f_ffe1, 296)?;
     let line = "solo img out --ram=2 --budget=1";
     let (status, _) = run(alloc, &file, line, &[])?;
-    assert_eq!(rt; status, Status::Ended);
+    assert_eq!(rt; status_code(&status), ENDED);
     Ok(())
 }

@@ -1,7 +1,7 @@
 // Whole programs: what a clause says of each event is here seen to come to what it should.
 
-use super::{run, text_of};
-use crate::status::Status;
+use super::{ENDED, run, text_of};
+use crate::status::status_code;
 use flex_base::MemoryOuter;
 use std::alloc::{AllocError, Global};
 use std::process::Abort;
@@ -24,7 +24,7 @@ pub(super) fn run_to_end(
 ) -> Result<MemoryOuter, AllocError> {
     let image = image_of(alloc, words)?;
     let (status, outer) = run(alloc, &image, line, &[])?;
-    assert!(rt; status == Status::Ended);
+    assert!(rt; status_code(&status) == ENDED);
     Ok(outer)
 }
 
@@ -72,7 +72,7 @@ fn reaches_both_ends_of_ram(rt: HostRuntime) -> Result<(), AllocError> {
     let image = image_of(rt.alloc(), &ENDS_OF_RAM)?;
     let line = "solo img out --ram=1 --budget=22";
     let (status, _) = run(rt.alloc(), &image, line, &[])?;
-    assert!(rt; status == Status::Ended);
+    assert!(rt; status_code(&status) == ENDED);
     Ok(())
 }
 

@@ -89,6 +89,11 @@ solo img out --input=
 solo img out --input
 solo img out --input in
 solo img out --input=a --input=a
+solo img out --plan=
+solo img out --plan
+solo img out --plan in
+solo img out --plan=a --plan=a
+solo img out --Plan=a
 solo img out --Input=a
 solo img out --RAM=1
 solo img out -ram=1
@@ -167,28 +172,34 @@ fn limits_the_order(rt: HostRuntime) -> Result<(), AllocError> {
 }
 
 #[test]
-fn reads_the_name_of_the_input(rt: HostRuntime) -> Result<(), AllocError> {
-    for (line, name) in [
-        ("solo img out", None),
-        ("solo img out --input=in", Some("in")),
-        ("solo img out --ram=1 --input=-- --order=0", Some("--")),
-        ("solo img out --input=img --budget=1", Some("img")),
+fn reads_the_names_of_plan_and_input(rt: HostRuntime) -> Result<(), AllocError> {
+    for (line, plan, input) in [
+        ("solo img out", None, None),
+        ("solo img out --input=in", None, Some("in")),
+        ("solo img out --plan=in", Some("in"), None),
+        ("solo img out --ram=1 --input=-- --order=0", None, Some("--")),
+        (
+            "solo img out --input=img --plan=--plan= --budget=1",
+            Some("--plan="),
+            Some("img"),
+        ),
     ] {
-        assert_input(&rt, rt.alloc(), line, name)?;
+        assert_names(&rt, rt.alloc(), line, plan, input)?;
     }
     Ok(())
 }
 
-fn assert_input(
+fn assert_names(
     rt: &impl Abort,
     alloc: Global,
     line: &str,
-    name: Option<&str>,
+    plan: Option<&str>,
+    input: Option<&str>,
 ) -> Result<(), AllocError> {
     let words = words_of(alloc, line)?;
     let command = read_words(&words);
     assert!(rt;
-        command.is_some_and(|command| command.input == name),
+        command.is_some_and(|command| command.plan == plan && command.input == input),
         "{line}"
     );
     Ok(())

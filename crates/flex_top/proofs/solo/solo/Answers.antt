@@ -12,12 +12,12 @@ use Rattle.flex_top.proofs.solo.solo.Goals as goal
 
 pub play-requires : goal.play-requires
 play-requires g c =
-    record { at = (setup_of c.args.image c.args.input.items c.args.command.now.settings, (c.in-Ok.ensures c.args.image (same_itself c.args.image)).at) }
+    record { at = (c.args.plan, setup_of c.args.image c.args.input.items c.args.command.now.settings, (c.in-Ok.ensures c.args.image (same_itself c.args.image)).at) }
 
 pub fill_tail-requires : goal.fill_tail-requires
 fill_tail-requires g c =
     let setup = setup_of c.args.image c.args.input.items c.args.command.now.settings in
-    (setup, _, c.in-Ok-play.ensures setup (c.in-Ok.ensures c.args.image (same_itself c.args.image)).at)
+    (c.args.plan, setup, _, c.in-Ok-play.ensures c.args.plan setup (c.in-Ok.ensures c.args.image (same_itself c.args.image)).at)
 
 pub returns-in-Ok-leave-clause-ended : goal.returns-in-Ok-leave-clause-ended
 returns-in-Ok-leave-clause-ended g c = λ start same at.
@@ -25,11 +25,11 @@ returns-in-Ok-leave-clause-ended g c = λ start same at.
     let setup = setup_of start c.args.input.items command.settings in
     let ready = c.in-Ok.ensures start same in
     let order_is : c.deref.result.now ≡ map hart_of command.order.now = c.deref.ensures.value ∙ ready.order in
-    let Done : List ℕ → Type 0 = λ ns. IsAt setup (reach setup (names_played setup ns)) c.play.new.self in
-    let done = subst Done order_is (c.in-Ok-play.ensures setup ready.at) in
+    let Done : List ℕ → Type 0 = λ ns. IsAt c.args.plan setup (reach setup (names_played setup ns)) c.play.new.self in
+    let done = subst Done order_is (c.in-Ok-play.ensures c.args.plan setup ready.at) in
     let All : Outcome → Type 0 = λ o. Leaves o (g.O.Outer.outside c.args.outer.now) (g.O.Outer.outside c.leave.new.outer) in
-    subst All (outcome_is (reading_of_command command) setup c.play.new.self c.console.result.now c.play.new.self.run.events.events c.lines.result.now done
-    (c.console.ensures setup _ done) refl (c.lines.ensures ∙ c.fill_tail.ensures setup _ done)) c.in-Ok-leave.ensures.ok
+    subst All (outcome_is c.args.plan (reading_of_command command) setup c.play.new.self c.console.result.now c.play.new.self.run.events.events c.lines.result.now done
+    (c.console.ensures c.args.plan setup _ done) refl (c.lines.ensures ∙ c.fill_tail.ensures c.args.plan setup _ done)) c.in-Ok-leave.ensures.ok
 
 pub returns-clause-cut : goal.returns-clause-cut
 returns-clause-cut g c = λ start same at.
@@ -37,8 +37,8 @@ returns-clause-cut g c = λ start same at.
     let setup = setup_of start c.args.input.items command.settings in
     let ready = c.in-Ok.ensures start same in
     let order_is : c.deref.result.now ≡ map hart_of command.order.now = c.deref.ensures.value ∙ ready.order in
-    let Done : List ℕ → Type 0 = λ ns. IsAt setup (reach setup (names_played setup ns)) c.play.new.self in
-    let done = subst Done order_is (c.in-Ok-play.ensures setup ready.at) in
+    let Done : List ℕ → Type 0 = λ ns. IsAt c.args.plan setup (reach setup (names_played setup ns)) c.play.new.self in
+    let done = subst Done order_is (c.in-Ok-play.ensures c.args.plan setup ready.at) in
     let Part : Outcome → Type 0 = λ o. LeavesPart o (g.O.Outer.outside c.args.outer.now) (g.O.Outer.outside c.leave.new.outer) in
-    subst Part (outcome_is (reading_of_command command) setup c.play.new.self c.console.result.now c.play.new.self.run.events.events c.lines.result.now done
-    (c.console.ensures setup _ done) refl (c.lines.ensures ∙ c.fill_tail.ensures setup _ done)) c.in-Err-leave.ensures.err
+    subst Part (outcome_is c.args.plan (reading_of_command command) setup c.play.new.self c.console.result.now c.play.new.self.run.events.events c.lines.result.now done
+    (c.console.ensures c.args.plan setup _ done) refl (c.lines.ensures ∙ c.fill_tail.ensures c.args.plan setup _ done)) c.in-Err-leave.ensures.err

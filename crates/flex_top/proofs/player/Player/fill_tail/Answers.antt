@@ -10,7 +10,7 @@ use Rattle.flex_top.proofs.Writing.{ram_is}
 use Rattle.flex_top.proofs.player.Player.fill_tail.Goals as goal
 
 pub returns : goal.returns
-returns c = λ setup u at.
+returns c = λ plan setup u at.
     let harts = c.deref.result.now in
     let bytes = c.bytes.result.now in
     let state : ℕ → State = λ h. (instruction_at u h).state in
@@ -18,6 +18,6 @@ returns c = λ setup u at.
     let stand = subst Stand (sym c.deref.ensures.value) (λ h other below. (at.each h other (omega (arith, below, at.harts))).stands) in
     let count : length harts ≡ setup.harts = ap (λ (xs : List Hart). length xs) c.deref.ensures.value ∙ at.harts in
     c.fill.ensures state stand
-    ∙ ap (λ (s : Option Stop). tail_lines s (length harts) state bytes) (c.stop.ensures setup u at)
+    ∙ ap (λ (s : Option Stop). tail_lines s (length harts) state bytes) (c.stop.ensures plan setup u at)
     ∙ ap (λ (n : ℕ). tail_lines (device_stop setup.harts u.devices) n state bytes) count
     ∙ ap (tail_lines (device_stop setup.harts u.devices) setup.harts state) (ram_is setup u bytes (c.bytes.ensures.whole setup u.ram at.memory.ram.replay at.memory.ram.alone.banks_are))

@@ -5,6 +5,6 @@ use Rattle.flex_top.proofs.Playing.{ended_is}
 use Rattle.flex_top.proofs.player.Player.has_ended.Goals as goal
 
 pub returns-then-is_some : goal.returns-then-is_some
-returns-then-is_some c = λ setup u at.
-    let stops = ap (λ s. is_some s) (sym (c.stop.ensures setup u at)) ∙ sym c.is_some.ensures ∙ c.if-is_some.true in
-    ended_is setup u true c.are_idle.result stops (λ same. c.are_idle.ensures setup u at)
+returns-then-is_some c = λ plan setup u at.
+    let stops = ap (λ s. is_some s) (sym (c.stop.ensures plan setup u at)) ∙ sym c.is_some.ensures ∙ c.if-is_some.true in
+    ended_is setup u true c.are_idle.result stops (λ same. c.are_idle.ensures plan setup u at)

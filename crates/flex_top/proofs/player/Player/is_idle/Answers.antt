@@ -7,17 +7,17 @@ use Rattle.flex_top.proofs.Playing.{far_read, idle_at}
 use Rattle.flex_top.proofs.player.Player.is_idle.Goals as goal
 
 pub returns-then-is_over : goal.returns-then-is_over
-returns-then-is_over c = λ setup u at.
+returns-then-is_over c = λ plan setup u at.
     let player = c.args.self.now in
     let h = c.args.h in
     let in_progress : h < length player.progress.items = omega (arith, c.requires.hart, at.harts, at.progress) in
     let far = far_read player h c.index.result.now in_progress c.index.ensures in
     let over = sym c.is_over.ensures ∙ c.if-is_over.true in
     c.if-is_over.true
-    ∙ sym (idle_at setup u player h at c.requires.hart ∙ ap (λ (p : Progress). is_done p || is_parked p) far ∙ ap (λ b. b || is_parked c.index.result.now) over)
+    ∙ sym (idle_at plan setup u player h at c.requires.hart ∙ ap (λ (p : Progress). is_done p || is_parked p) far ∙ ap (λ b. b || is_parked c.index.result.now) over)
 
 pub returns-else-is_over : goal.returns-else-is_over
-returns-else-is_over c = λ setup u at.
+returns-else-is_over c = λ plan setup u at.
     let player = c.args.self.now in
     let h = c.args.h in
     let in_progress : h < length player.progress.items = omega (arith, c.requires.hart, at.harts, at.progress) in
@@ -25,4 +25,4 @@ returns-else-is_over c = λ setup u at.
     let second = far_read player h c.index-else-is_over.result.now in_progress c.index-else-is_over.ensures in
     let goes_on = ap (λ (p : Progress). is_done p) first ∙ sym c.is_over.ensures ∙ c.if-is_over.false in
     let parked = ap (λ (p : Progress). is_parked p) second ∙ sym c.is_parked.ensures in
-    sym (idle_at setup u player h at c.requires.hart ∙ ap (λ b. b || is_parked (progress_at player h)) goes_on ∙ parked)
+    sym (idle_at plan setup u player h at c.requires.hart ∙ ap (λ b. b || is_parked (progress_at player h)) goes_on ∙ parked)

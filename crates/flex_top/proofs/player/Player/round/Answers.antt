@@ -8,51 +8,51 @@ use Rattle.flex_top.proofs.player.Player.round.Goals as goal
 use Rattle.flex_top.proofs.player.Player.round.Goals.{then-not-has_ended+in_ok-turn, else-not-has_ended}
 
 pub loop-h-init : goal.loop-h-init
-loop-h-init c = λ setup order done rest at_first.
+loop-h-init c = λ plan setup order done rest at_first.
     let all : setup.harts ≡ setup.harts - 0 = omega arith in (
       omega arith,
-      playing_as setup order done (done ++ []) (hart_numbers setup ++ rest) (range_with_len 0 (setup.harts - 0) ++ rest) c.args.self.now
+      playing_as plan setup order done (done ++ []) (hart_numbers setup ++ rest) (range_with_len 0 (setup.harts - 0) ++ rest) c.args.self.now
           (sym (append-nil done)) (ap (λ n. range_with_len 0 n ++ rest) all) at_first,
     )
 
 pub has_ended-requires : goal.has_ended-requires
 has_ended-requires c =
     let first = c.requires in
-    (first.0, _, (c.loop-h.invariant first.0 first.1 first.2 first.3 first.4).1.at)
+    (first.0, first.1, _, (c.loop-h.invariant first.0 first.1 first.2 first.3 first.4 first.5).1.at)
 
 pub turn-requires : goal.turn-requires
 turn-requires c =
     let first = c.requires in
-    let was = (c.loop-h.invariant first.0 first.1 first.2 first.3 first.4).1 in
-    record { hart = omega (arith, c.loop-h-test.true, c.len-h-end.ensures, first.4.at.harts, was.at.harts); at = (first.0, _, was.at) }
+    let was = (c.loop-h.invariant first.0 first.1 first.2 first.3 first.4 first.5).1 in
+    record { hart = omega (arith, c.loop-h-test.true, c.len-h-end.ensures, first.5.at.harts, was.at.harts); at = (first.0, first.1, _, was.at) }
 
 pub loop-h-preserved : goal.loop-h-preserved
-loop-h-preserved c = λ setup order done rest at_first.
+loop-h-preserved c = λ plan setup order done rest at_first.
     let h = c.loop-h.h in
     let so_far = done ++ range_with_len 0 h in
-    let was = (c.loop-h.invariant setup order done rest at_first).1 in
+    let was = (c.loop-h.invariant plan setup order done rest at_first).1 in
     let below : h < setup.harts = omega (arith, c.loop-h-test.true, c.len-h-end.ensures, at_first.at.harts) in
     let later = range_with_len (h + 1) (setup.harts - (h + 1)) ++ rest in
-    let playing = playing_as setup order so_far so_far (range_with_len h (setup.harts - h) ++ rest) (h ∷ later) c.loop-h.self refl (ap (λ ns. ns ++ rest) (numbers_more h setup.harts below)) was in
+    let playing = playing_as plan setup order so_far so_far (range_with_len h (setup.harts - h) ++ rest) (h ∷ later) c.loop-h.self refl (ap (λ ns. ns ++ rest) (numbers_more h setup.harts below)) was in
     let one_more = append_assoc done (range_with_len 0 h) (h ∷ []) ∙ ap (λ ns. done ++ ns) (sym (range_with_len_push h)) in
-    let tells = c.has_ended.ensures setup _ playing.at in
+    let tells = c.has_ended.ensures plan setup _ playing.at in
     elim c.if-not-has_ended.branch [
       | then-not-has_ended+in_ok-turn w ↦ (
         omega (arith, below),
-        rw (w.self-is) (playing_as setup order (so_far ++ h ∷ []) (done ++ range_with_len 0 (h + 1)) later later _ one_more refl
-            (playing_turn setup order so_far later h c.loop-h.self _ playing (sym tells ∙ w.if-not-has_ended.true) (w.in_ok-turn.ensures setup _ playing.at))),
+        rw (w.self-is) (playing_as plan setup order (so_far ++ h ∷ []) (done ++ range_with_len 0 (h + 1)) later later _ one_more refl
+            (playing_turn plan setup order so_far later h c.loop-h.self _ playing (sym tells ∙ w.if-not-has_ended.true) (w.in_ok-turn.ensures plan setup _ playing.at))),
       )
       | else-not-has_ended w ↦ (
         omega (arith, below),
-        rw (w.self-is) (playing_as setup order (so_far ++ h ∷ []) (done ++ range_with_len 0 (h + 1)) later later _ one_more refl
-            (playing_over setup order so_far later h c.loop-h.self playing (sym tells ∙ w.if-not-has_ended.false))),
+        rw (w.self-is) (playing_as plan setup order (so_far ++ h ∷ []) (done ++ range_with_len 0 (h + 1)) later later _ one_more refl
+            (playing_over plan setup order so_far later h c.loop-h.self playing (sym tells ∙ w.if-not-has_ended.false))),
       )
     ]
 
 pub returns : goal.returns
-returns c = λ setup order done rest at_first.
+returns c = λ plan setup order done rest at_first.
     let h = c.loop-h.h in
-    let was = c.loop-h.invariant setup order done rest at_first in
+    let was = c.loop-h.invariant plan setup order done rest at_first in
     let all : h ≡ setup.harts = omega (arith, c.loop-h-test.false, was.0, c.len-h-end.ensures, at_first.at.harts) in
-    playing_as setup order (done ++ range_with_len 0 h) (done ++ hart_numbers setup) (range_with_len h (setup.harts - h) ++ rest) rest c.loop-h.self
+    playing_as plan setup order (done ++ range_with_len 0 h) (done ++ hart_numbers setup) (range_with_len h (setup.harts - h) ++ rest) rest c.loop-h.self
     (ap (λ n. done ++ range_with_len 0 n) all) (ap (λ ns. ns ++ rest) (numbers_all h setup.harts (omega (arith, all)))) was.1

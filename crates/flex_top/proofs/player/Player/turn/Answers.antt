@@ -6,13 +6,13 @@ use Rattle.flex_top.proofs.Rounds.{in_turn_on, turned_all, turned_once, turned_n
 use Rattle.flex_top.proofs.player.Player.turn.Goals as goal
 
 pub turn-init : goal.turn-init
-turn-init c = λ setup u at. record { now = u; at = at; reaches = refl }
+turn-init c = λ plan setup u at. record { now = u; at = at; reaches = refl }
 
 pub turn-preserved : goal.turn-preserved
-turn-preserved c = λ setup u at.
-    let was = c.turn.invariant setup u at in
-    let Stepped : Step → Type 0 = λ s. AfterStep setup was.now c.args.h s c.step.new.self in
-    in_turn_on setup u c.args.h c.turn.self c.step.new.self was (subst Stepped c.in-Accessed.is (c.in_ok-step.ensures.after setup was.now was.at))
+turn-preserved c = λ plan setup u at.
+    let was = c.turn.invariant plan setup u at in
+    let Stepped : Step → Type 0 = λ s. AfterStep plan setup was.now c.args.h s c.step.new.self in
+    in_turn_on plan setup u c.args.h c.turn.self c.step.new.self was (subst Stepped c.in-Accessed.is (c.in_ok-step.ensures.after plan setup was.now was.at))
 
 pub turn-smaller : goal.turn-smaller
 turn-smaller c =
@@ -20,13 +20,13 @@ turn-smaller c =
     subst Nearer c.in-Accessed.is c.in_ok-step.ensures.nearer
 
 pub returns-in-Ended : goal.returns-in-Ended
-returns-in-Ended c = λ setup u at.
-    let was = c.turn.invariant setup u at in
-    let Stepped : Step → Type 0 = λ s. AfterStep setup was.now c.args.h s c.step.new.self in
-    turned_all setup u c.args.h c.turn.self c.step.new.self was (turned_once setup was.now c.args.h c.step.new.self (subst Stepped c.in-Ended.is (c.in_ok-step.ensures.after setup was.now was.at)))
+returns-in-Ended c = λ plan setup u at.
+    let was = c.turn.invariant plan setup u at in
+    let Stepped : Step → Type 0 = λ s. AfterStep plan setup was.now c.args.h s c.step.new.self in
+    turned_all plan setup u c.args.h c.turn.self c.step.new.self was (turned_once plan setup was.now c.args.h c.step.new.self (subst Stepped c.in-Ended.is (c.in_ok-step.ensures.after plan setup was.now was.at)))
 
 pub returns-in-Rested : goal.returns-in-Rested
-returns-in-Rested c = λ setup u at.
-    let was = c.turn.invariant setup u at in
-    let Stepped : Step → Type 0 = λ s. AfterStep setup was.now c.args.h s c.step.new.self in
-    turned_all setup u c.args.h c.turn.self c.step.new.self was (turned_none setup was.now c.args.h c.step.new.self (subst Stepped c.in-Rested.is (c.in_ok-step.ensures.after setup was.now was.at)))
+returns-in-Rested c = λ plan setup u at.
+    let was = c.turn.invariant plan setup u at in
+    let Stepped : Step → Type 0 = λ s. AfterStep plan setup was.now c.args.h s c.step.new.self in
+    turned_all plan setup u c.args.h c.turn.self c.step.new.self was (turned_none plan setup was.now c.args.h c.step.new.self (subst Stepped c.in-Rested.is (c.in_ok-step.ensures.after plan setup was.now was.at)))
