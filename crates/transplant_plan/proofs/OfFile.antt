@@ -1,5 +1,5 @@
 -- A fault that is found in a file is one of those that a file is tested for.
-use Rattle.std.proofs.Common.{◌≡◌, ℕ, Bool, true, false, if◌then◌else◌, List, [], ◌∷◌, Option, Some, None, Result, Ok, Err, codes, refl, sym, subst}
+use Rattle.std.proofs.Common.{◌≡◌, ℕ, Bool, true, false, if◌then◌else◌, List, [], ◌∷◌, Option, Some, None, Result, Ok, Err, codes, refl, subst}
 use Rattle.std.specs.Prelude.{IfSome}
 use Rattle.std.specs.Str.{bytes_eq}
 use Rattle.std.specs.Option.{option_or}
@@ -11,7 +11,7 @@ use Rattle.flex_base.specs.declared.engine.Engine.{Engine}
 use Rattle.transplant_plan.specs.Names.{class_named, engine_named}
 use Rattle.transplant_plan.specs.Assignment.{Assignment, is_allowed, bank_counts, pipe_counts, kernel_counts}
 use Rattle.transplant_plan.specs.Faults.{is_of_file}
-use Rattle.transplant_plan.specs.PlanFile.{first_fault, top_fault, engines_fault, engine_fault, named_fault, class_fault, fault_in, count_fault, assignment, plan_unless, plan_of_document, is_utf8, plan_of}
+use Rattle.transplant_plan.specs.PlanFile.{first_fault, top_fault, engines_fault, engine_fault, named_fault, class_fault, fault_in, count_fault, plan_unless, plan_of_document, is_utf8, plan_of}
 use Rattle.transplant_plan.specs.declared.fault.PlanFault.{PlanFault}
 use Rattle.transplant_plan.specs.declared.fault.PlanFault.TheVariants as fault
 

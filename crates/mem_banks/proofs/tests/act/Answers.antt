@@ -1,6 +1,5 @@
-use Rattle.std.proofs.Common.{rules, arith, ◌≡◌, ◌+◌, ◌-◌, ◌≤◌, ℕ, Bool, false, true, cond, sym, subst}
+use Rattle.std.proofs.Common.{rules, arith, ◌≡◌, ◌+◌, ◌-◌, Bool, false, cond, sym, subst}
 use Rattle.flex_base.specs.Devices.{is_transmit}
-use Rattle.flex_base.specs.Following.{waits_by}
 use Rattle.flex_base.specs.declared.engine.Engine.TheVariants as engine
 use Rattle.access_record.specs.Buses.{Run}
 use Rattle.mem_banks.specs.Tried.{IsTried}
