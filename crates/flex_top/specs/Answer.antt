@@ -179,4 +179,3 @@ pub record SplitsAlike (r : Reading) (setup : Setup) (one other : Plan) : Type 0
   pub left : IsLeft r setup (outcome_of_run r one setup) said (journal_of one setup r.order) tail
   pub other_left : IsLeft r setup (outcome_of_run r other setup) said (journal_of other setup r.order) tail
   pub events : strip (journal_of one setup r.order) ≡ strip (journal_of other setup r.order)
-

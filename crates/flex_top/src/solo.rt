@@ -47,14 +47,7 @@ pub(crate) fn solo<O: Outer>(
         order,
         mut pieces,
         mut tail,
-    } = match prepare(
-        alloc,
-        plan,
-        image,
-        input,
-        &command.settings,
-        command.order,
-    ) {
+    } = match prepare(alloc, plan, image, input, &command.settings, command.order) {
         Ok(prepared) => prepared,
         Err(_) => return Status::OutOfMemory,
     };

@@ -18,8 +18,11 @@ const IMAGE: [u8; 8] = [0x93, 0x02, 0x70, 0x00, 0x6f, 0x00, 0x00, 0x00];
 
 // The numbers of statuses.
 const ENDED: u8 = 0;
+
 const USAGE: u8 = 1;
+
 const READ_FAULT: u8 = 2;
+
 const WRITE_FAULT: u8 = 6;
 
 const WORDS: &str = "solo img out --ram=1 --budget=3";
@@ -282,10 +285,7 @@ fn reads_the_image_before_it_writes(rt: HostRuntime) -> Result<(), AllocError> {
 #[test]
 fn answers_by_the_words(rt: HostRuntime) -> Result<(), AllocError> {
     for (line, status) in [
-        (
-            "solo img out --ram=0000000001 --budget=0000000003",
-            ENDED,
-        ),
+        ("solo img out --ram=0000000001 --budget=0000000003", ENDED),
         ("solo img out --ram=1 --budget=64", ENDED),
         ("solo img out --ram=1 --budget=65", ENDED),
         ("solo none out --ram=1 --budget=3", READ_FAULT),
@@ -304,12 +304,7 @@ fn answers_by_the_words(rt: HostRuntime) -> Result<(), AllocError> {
     Ok(())
 }
 
-fn assert_words(
-    rt: &impl Abort,
-    alloc: Global,
-    line: &str,
-    status: u8,
-) -> Result<(), AllocError> {
+fn assert_words(rt: &impl Abort, alloc: Global, line: &str, status: u8) -> Result<(), AllocError> {
     let (answer, outer) = run(alloc, &IMAGE, line, &[])?;
     assert!(rt; status_code(&answer) == status, "{line}");
     assert!(rt;

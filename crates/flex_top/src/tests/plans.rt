@@ -115,12 +115,7 @@ fn refuses_what_is_no_plan(rt: HostRuntime) -> Result<(), AllocError> {
 }
 
 // That the plan is refused by the fault of this number, and nothing is written.
-fn assert_fault(
-    rt: &impl Abort,
-    alloc: Global,
-    plan: &[u8],
-    number: u8,
-) -> Result<(), AllocError> {
+fn assert_fault(rt: &impl Abort, alloc: Global, plan: &[u8], number: u8) -> Result<(), AllocError> {
     let (status, outer) = run_planned(alloc, plan, PLANNED)?;
     assert_eq!(rt; fault_of(&status), number);
     assert!(rt; outer.written("out").is_none());
@@ -165,12 +160,7 @@ fn takes_the_plan_first(rt: HostRuntime) -> Result<(), AllocError> {
 }
 
 // That the status is this one where the file `plan` is no plan.
-fn assert_order(
-    rt: &impl Abort,
-    alloc: Global,
-    line: &str,
-    status: u8,
-) -> Result<(), AllocError> {
+fn assert_order(rt: &impl Abort, alloc: Global, line: &str, status: u8) -> Result<(), AllocError> {
     let (answer, _) = run_planned(alloc, b"banks = 3", line)?;
     assert!(rt; status_code(&answer) == status, "{line}");
     Ok(())

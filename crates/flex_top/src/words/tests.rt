@@ -177,7 +177,11 @@ fn reads_the_names_of_plan_and_input(rt: HostRuntime) -> Result<(), AllocError> 
         ("solo img out", None, None),
         ("solo img out --input=in", None, Some("in")),
         ("solo img out --plan=in", Some("in"), None),
-        ("solo img out --ram=1 --input=-- --order=0", None, Some("--")),
+        (
+            "solo img out --ram=1 --input=-- --order=0",
+            None,
+            Some("--"),
+        ),
         (
             "solo img out --input=img --plan=--plan= --budget=1",
             Some("--plan="),

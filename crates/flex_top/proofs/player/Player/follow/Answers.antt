@@ -16,3 +16,8 @@ loop-h-preserved c = λ plan setup at.
     let names = take i order in
     let At : List ℕ → Type 0 = λ ns. IsAt plan setup (reach setup ns) c.next.new.self in
     subst At (sym (take_more order i 0 c.loop-h-test.true)) (at_more plan setup names (get_or order i 0) c.next.new.self (c.in_ok-next.ensures plan setup (reach setup names) (c.loop-h.invariant plan setup at)))
+
+pub next-requires : goal.next-requires
+next-requires c =
+    let (plan, setup, at) = c.requires.at in
+    record { at = (plan, setup, _, c.loop-h.invariant plan setup at) }

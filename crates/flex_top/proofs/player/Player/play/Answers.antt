@@ -47,3 +47,8 @@ pub returns : goal.returns
 returns c = λ plan setup at.
     played_all plan setup c.args.order.now c.rounds.counter c.rounds.self
     (omega (arith, c.rounds-test.false, c.most_rounds-end.ensures plan setup _ (c.in_ok-follow.ensures plan setup at))) (c.rounds.invariant plan setup at)
+
+pub most_rounds-end-requires : goal.most_rounds-end-requires
+most_rounds-end-requires c =
+    let (plan, setup, at) = c.requires.at in
+    (plan, setup, _, c.in_ok-follow.ensures plan setup at)

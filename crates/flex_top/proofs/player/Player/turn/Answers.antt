@@ -30,3 +30,9 @@ returns-in-Rested c = λ plan setup u at.
     let was = c.turn.invariant plan setup u at in
     let Stepped : Step → Type 0 = λ s. AfterStep plan setup was.now c.args.h s c.step.new.self in
     turned_all plan setup u c.args.h c.turn.self c.step.new.self was (turned_none plan setup was.now c.args.h c.step.new.self (subst Stepped c.in-Rested.is (c.in_ok-step.ensures.after plan setup was.now was.at)))
+
+pub step-requires-clause-at : goal.step-requires-clause-at
+step-requires-clause-at c =
+    let (plan, setup, u, at) = c.requires.at in
+    let was = c.turn.invariant plan setup u at in
+    (plan, setup, was.now, was.at)
