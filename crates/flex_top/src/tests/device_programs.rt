@@ -138,7 +138,8 @@ fn waits_for_the_timer(rt: HostRuntime) -> Result<(), AllocError> {
     let line = "solo img out --ram=1 --budget=6";
     let image = image_of(rt.alloc(), &WAITING)?;
     assert_trace(&rt, rt.alloc(), &image, line, WAITED)?;
-    assert_trace(&rt, rt.alloc(), &image[12..], line, IDLE)
+    let without = image_of(rt.alloc(), &WAITING[3..])?;
+    assert_trace(&rt, rt.alloc(), &without, line, IDLE)
 }
 
 // Hart 1 waits for a software interrupt; hart 0 sends it one and turns the power off.
