@@ -1,5 +1,5 @@
 -- A context goes on as its log does.
-use Rattle.std.proofs.Common.{◌≡◌, ◌≢◌, ℕ, ◌+◌, ◌-◌, ◌*◌, ◌<◌, ◌≤◌, Bool, true, false, ◌==◌, if◌then◌else◌, List, [], ◌∷◌, ◌++◌, length, Option, None, Some, inl, inr, refl, sym, ap, subst, ◌∙◌, arith}
+use Rattle.std.proofs.Common.{◌≡◌, ◌≢◌, ℕ, ◌+◌, ◌-◌, ◌*◌, ◌<◌, ◌≤◌, true, false, if◌then◌else◌, List, [], ◌∷◌, ◌++◌, length, Option, Some, refl, sym, ap, subst, ◌∙◌, arith}
 use Rattle.std.proofs.lemmas.List.{length-append, length-map}
 use Rattle.flex_base.specs.Setup.{Setup}
 use Rattle.flex_base.specs.State.{State}
@@ -35,7 +35,6 @@ use Rattle.flex_base.proofs.Stories.{ends_unspent}
 use Rattle.hart_story.specs.declared.hart.Hart.{Hart}
 use Rattle.hart_story.specs.declared.progress.Progress.{Progress}
 use Rattle.journal.specs.Log.{Log}
-use Rattle.access_record.specs.declared.entry.Entry.{Entry}
 use Rattle.access_record.specs.declared.entry.LogEntry.{LogEntry}
 use Rattle.access_record.specs.Logs.{log_entry}
 use Rattle.access_record.specs.Passes.{PassOfHart}
@@ -44,7 +43,7 @@ use Rattle.access_record.specs.Histories.{History, InHistory}
 use Rattle.access_record.proofs.Extending.{events_of-push, extends-places}
 use Rattle.context.specs.declared.wants.Wants.{Wants}
 use Rattle.context.specs.declared.wants.Wants.TheVariants as wants
-use Rattle.context.specs.Obeying.{wants_of, IsFor, moves, ObeysSoFar}
+use Rattle.context.specs.Obeying.{wants_of, IsFor, engine_wanted, moves, ObeysSoFar}
 use Rattle.context.specs.Fewness.{plain_count, IsFew}
 use Rattle.context.specs.Contexts.{Context, context_of, plan_of, layout_of, IsRunOf, events_in, instruction_at, wants_in, IsWanting, IsWantedIn, IsAsking, IsEnding, StandsIn, IsContext, IsOn, Steps, Moves, IsWoken}
 use Rattle.context.proofs.Fewness.{few_access, few_end}
@@ -94,6 +93,10 @@ pub left_some : (c : Context) → IsContext c → 0 < c.left
 left_some c context =
     let at = (context.stands (some_setup c) (some_run c)).at in
     omega (arith, context.round, at.stands.regs.ends, at.fit.within)
+
+-- what is wanted is one thing
+pub wants_one : (c : Context) (w other : Wants) → IsWanting c w → IsWanting c other → w ≡ other
+wants_one c w other one two = sym (one (some_setup c) (some_run c)) ∙ two (some_setup c) (some_run c)
 
 -- who wants an event doesn't wait
 unwaiting : (plan : Class → Engine) (w : Want) (setup : Setup) (c : Context) (engine : Engine) → Follows setup c.pass.hart.0 (events_in c)
@@ -547,3 +550,8 @@ pub needs_event : (c : Context) (n : Need) → ((setup : Setup) → IsRunOf c.en
     → IsWantedIn c c.engine → n ≢ need.Parked × n ≢ need.Over
 needs_event c n told w =
     no_event (plan_of c) c.engine w.0 n (wanted (some_setup c) (instruction_at (some_setup c) c)) (w.1 (some_setup c) (some_run c)) (told (some_setup c) (some_run c)) w.2
+
+pub wanted_engine_is : (view c : Context) (told : Wants) (at : Engine) → view ≡ c → IsWanting c told → at ≡ engine_wanted (plan_of view) view.engine told
+    → (w : Wants) → IsWanting c w → at ≡ engine_wanted (plan_of c) c.engine w
+wanted_engine_is view c told at is wanting its w other =
+    its ∙ ap (λ (k : Context). engine_wanted (plan_of k) k.engine told) is ∙ ap (λ (x : Wants). engine_wanted (plan_of c) c.engine x) (wants_one c told w wanting other)

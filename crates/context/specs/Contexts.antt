@@ -1,5 +1,5 @@
 -- What contracts see of a context, and what its type keeps.
-use Rattle.std.specs.Prelude.{◌≡◌, ℕ, ◌+◌, ◌*◌, ◌<◌, Bool, true, false, List, [], ◌∷◌, length, Option, Some}
+use Rattle.std.specs.Prelude.{◌≡◌, ℕ, ◌+◌, ◌*◌, ◌<◌, Bool, true, false, List, length, Option, Some}
 use Rattle.flex_base.specs.Setup.{Setup}
 use Rattle.flex_base.specs.Unsplit.{Instruction}
 use Rattle.flex_base.specs.StoryTree.{Asks}
@@ -24,14 +24,12 @@ use Rattle.hart_story.specs.declared.progress.Need.TheVariants as need
 use Rattle.hart_story.specs.declared.hart.Hart.{Hart}
 use Rattle.hart_story.specs.declared.progress.Progress.{Progress}
 use Rattle.journal.specs.Log.{Log}
-use Rattle.access_record.specs.declared.entry.Entry.{Entry}
 use Rattle.access_record.specs.Passes.{PassOfHart}
 use Rattle.access_record.specs.Buses.{Run, NamePlaces, events_of, waits, engine_of, waits_unwoken, Extends, HasLooked}
 use Rattle.access_record.specs.Histories.{History, InHistory, IsUnwokenIn}
 use Rattle.transplant_plan.specs.Planning.{engine_at}
 use Rattle.transplant_plan.specs.declared.plan.Plan.{Plan}
 use Rattle.context.specs.declared.wants.Wants.{Wants}
-use Rattle.context.specs.declared.wants.Wants.TheVariants as wants
 use Rattle.context.specs.Obeying.{wants_of, IsFor, moves, ObeysSoFar}
 use Rattle.context.specs.Fewness.{plain_count, IsFew}
 
@@ -50,7 +48,14 @@ pub record Context : Type 0 where
 
 abbrev pub context_of : Hart → Progress → PassOfHart → Log → Plan → Settings → ℕ → Engine → ℕ → Context
 context_of hart progress pass log plan settings entry engine left = record {
-  hart = hart; progress = progress; pass = pass; log = log; plan = plan; settings = settings; entry = entry; engine = engine;
+  hart = hart;
+  progress = progress;
+  pass = pass;
+  log = log;
+  plan = plan;
+  settings = settings;
+  entry = entry;
+  engine = engine;
   left = left;
 }
 

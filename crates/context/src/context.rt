@@ -8,7 +8,9 @@ ghost use Rattle.flex_base.specs.Following.{wanted};
 ghost use Rattle.hart_story.specs.Need.{need_of, AsksPlaced};
 ghost use Rattle.access_record.specs.Buses.{Run};
 ghost use Rattle.context.specs.declared.wants.Wants.TheVariants as Wants;
-ghost use Rattle.context.specs.Contexts.{new_context, layout_of, IsRunOf, instruction_at, IsWanting, IsWantedIn, IsAsking, IsEnding, IsContext, IsOn, IsSame, Steps, Moves, HasTried};
+ghost use Rattle.context.specs.declared.wants.Wants.{Wants};
+ghost use Rattle.context.specs.Obeying.{engine_wanted};
+ghost use Rattle.context.specs.Contexts.{new_context, plan_of, layout_of, IsRunOf, instruction_at, IsWanting, IsWantedIn, IsAsking, IsEnding, IsContext, IsOn, IsSame, Steps, Moves, HasTried};
 
 use crate::held::HeldPass;
 use crate::wants::Wants;
@@ -59,13 +61,7 @@ impl HartContext {
     ///
     /// The hart is at its start in an image that fits. The pass is of that hart and its log is empty;
     /// so is the log, which has room for 24 events an end and 24 more.
-    pub fn new(
-        hart: Hart,
-        pass: Pass,
-        log: HartLog,
-        plan: Plan,
-        settings: &Settings,
-    ) -> HartContext
+    pub fn new(hart: Hart, pass: Pass, log: HartLog, plan: Plan, settings: &Settings) -> HartContext
         requires lawful { is_lawful settings.now ≡ true }
         requires image { (image : Loaded) × (image_fits settings.now.ram image ≡ true)
             × StandsFor hart (start pass.hart.0 image.entry) }
@@ -116,6 +112,19 @@ impl HartContext {
             Need::Finish(class) => Wants::Finish(class),
             Need::Parked => Wants::Parked,
             Need::Over => Wants::Over,
+        }
+    }
+
+    /// The engine to which the plan gives what the hart wants. One that is parked or over wants the
+    /// engine that it is in.
+    pub fn wanted_engine(&self) -> Engine
+        ensures { (w : Wants) → IsWanting self.now w → result ≡ engine_wanted (plan_of self.now) self.now.engine w }
+    {
+        match self.wants() {
+            Wants::Ask(class) => self.plan.engine_for(class),
+            Wants::Finish(class) => self.plan.engine_for(class),
+            Wants::Parked => self.engine,
+            Wants::Over => self.engine,
         }
     }
 
@@ -216,9 +225,16 @@ impl HartContext {
         match self.pass.wake(bus, self.engine) {
             Some((number, reply)) => {
                 let layout = layout_of(&self.settings);
-                give(&self.hart, &mut self.progress, &layout, self.settings.budget, reply);
+                give(
+                    &self.hart,
+                    &mut self.progress,
+                    &layout,
+                    self.settings.budget,
+                    reply,
+                );
                 let access = Access::Pulse { tick: false };
-                self.log.push_access(number, self.pass.hart(), self.engine, access, reply);
+                self.log
+                    .push_access(number, self.pass.hart(), self.engine, access, reply);
                 true
             }
             None => false,
@@ -271,7 +287,13 @@ impl HartContext {
     {
         let (number, reply) = self.pass.access(bus, self.engine, access);
         let layout = layout_of(&self.settings);
-        give(&self.hart, &mut self.progress, &layout, self.settings.budget, reply);
+        give(
+            &self.hart,
+            &mut self.progress,
+            &layout,
+            self.settings.budget,
+            reply,
+        );
         self.log
             .push_access(number, self.pass.hart(), self.engine, access, reply);
     }

@@ -40,8 +40,7 @@ give-requires g c =
     let On : Context → Type 0 = λ k. IsOn (g.B.Bus.run c.args.bus.now) k in
     let Asking : Context → Type 0 = λ k. IsAsking k c.args.access in
     let of = (subst On (sym c.self.view_is) c.requires.on).setup in
-    let asks = (subst Asking (sym c.self.view_is) c.requires.asks).asks _ of in
-    (
+    let asks = (subst Asking (sym c.self.view_is) c.requires.asks).asks _ of in (
       _,
       _,
       c.args.access,

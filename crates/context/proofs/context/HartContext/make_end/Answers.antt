@@ -1,5 +1,5 @@
 -- The end is the one to which the hart's instruction comes, and the next one begins.
-use Rattle.std.proofs.Common.{◌≡◌, ◌+◌, ◌<◌, refl, sym, subst, arith}
+use Rattle.std.proofs.Common.{◌<◌, sym, subst, arith}
 use Rattle.context.specs.Contexts.{Context, IsEnding, IsOn}
 use Rattle.context.proofs.Keeping.{in_run, has_room, is_given, gained, ending_in, makes_end, steps_end, steps_from, on_run}
 use Rattle.context.proofs.context.HartContext.make_end.Goals as goal

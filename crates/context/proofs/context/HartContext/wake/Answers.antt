@@ -1,5 +1,5 @@
 -- A parked hart makes its pulse, or has looked.
-use Rattle.std.proofs.Common.{◌≡◌, true, false, Some, refl, sym, subst}
+use Rattle.std.proofs.Common.{false, refl, sym, subst}
 use Rattle.flex_base.specs.declared.access.Access.TheVariants as acc
 use Rattle.context.specs.declared.wants.Wants.TheVariants as wants
 use Rattle.context.specs.Contexts.{Context, IsWanting, IsOn}
@@ -32,8 +32,7 @@ give-requires g c =
     let On : Context → Type 0 = λ k. IsOn (g.B.Bus.run c.args.bus.now) k in
     let Parked : Context → Type 0 = λ k. IsWanting k wants.Parked in
     let of = (subst On (sym c.self.view_is) c.requires.on).setup in
-    let parked = subst Parked (sym c.self.view_is) c.requires.parked in
-    (
+    let parked = subst Parked (sym c.self.view_is) c.requires.parked in (
       _,
       _,
       acc.Pulse false,
