@@ -27,7 +27,7 @@ returns-clause-banks c =
     let here : ram_banks run ≡ k = sym p.counted ∙ sym last in
     let has_place = subst (λ n. n < length slots) (sym last) (last_within run lines c.self.inside.devices slots p) in
     let Is : Plain → Type 0 = λ v. IfSome c.wake_at.result.1 (λ r. map done_in (set slots k new)
-        ≡ (history_after v.run v.history hart (what.Acc (acc.Pulse false) r.1) r.0).banks) in
+    ≡ (history_after v.run v.history hart (what.Acc (acc.Pulse false) r.1) r.0).banks) in
     subst Is c.self.view_is (IfSome_then c.wake_at.result.1 c.wake_at.ensures.done
     (λ r more. banks-more slots k slot c.index_mut-slot.ensures.value has_place run least hart (acc.Pulse false) r.1 here new r.0 more))
 
