@@ -1,5 +1,5 @@
 -- How far a turn or a round is.
-use Rattle.std.specs.Prelude.{◌≡◌, ℕ, ◌+◌, ◌<◌, ◌≤◌, Bool, true, false, List, [], ◌∷◌, ◌++◌, length}
+use Rattle.std.specs.Prelude.{◌≡◌, ℕ, ◌<◌, Bool, true, false, List, [], ◌∷◌, ◌++◌}
 use Rattle.flex_base.specs.Setup.{Setup}
 use Rattle.flex_base.specs.StoryTree.{Want, Asks, Ends}
 use Rattle.flex_base.specs.Classes.{class_of_access}
@@ -49,13 +49,6 @@ AfterStep setup u h step_of.Rested s = Rests setup u h s
 -- the turn was made
 abbrev pub IsTurned : Setup → Machine → ℕ → Solo → Type 0
 IsTurned setup u h s = IsAt setup (reach_from setup u (turn_of setup u h)) s
-
--- so many events of a turn are made, at least: from this state the turn goes on as the whole from its start
-pub record IsInTurn (setup : Setup) (u : Machine) (h made : ℕ) (s : Solo) : Type 0 where
-  pub now : Machine
-  pub at : IsAt setup now s
-  pub reaches : reach_from setup u (turn_of setup u h) ≡ reach_from setup now (turn_of setup now h)
-  pub shorter : made + length (turn_of setup now h) ≤ length (turn_of setup u h)
 
 -- of the rounds that follow this state, the turns of some harts are made and those of the rest are to come
 pub record Playing (setup : Setup) (u : Machine) (done rest : List ℕ) (s : Solo) : Type 0 where

@@ -45,3 +45,7 @@ engines_of plan = (shown plan).engines
 -- the accesses that this bank of a bus has made; the devices are the last bank
 abbrev pub done_at : Plain → ℕ → List Done
 done_at bus bank = accesses_of (events_of (slice_index_or bus.logs bank []))
+
+-- the least number that it may give next
+abbrev pub least_in : Plain → ℕ
+least_in bus = bus.order

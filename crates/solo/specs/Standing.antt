@@ -1,5 +1,5 @@
 -- The state of the unsplit machine that a solo machine stands for.
-use Rattle.std.specs.Prelude.{◌≡◌, ℕ, ◌+◌, ◌*◌, ◌<◌, ◌≤◌, Bool, true, ◌==◌, List, [], ◌∷◌, length, filter, slice_index_or}
+use Rattle.std.specs.Prelude.{◌≡◌, ℕ, ◌+◌, ◌*◌, ◌<◌, ◌≤◌, true, ◌==◌, List, [], ◌∷◌, length, filter, slice_index_or}
 use Rattle.flex_base.specs.Setup.{Setup}
 use Rattle.flex_base.specs.FlatMemory.{Done}
 use Rattle.flex_base.specs.Forms.{IsPlaced}
@@ -7,16 +7,16 @@ use Rattle.flex_base.specs.Banks.{bank_of_access}
 use Rattle.flex_base.specs.Following.{instruction_of}
 use Rattle.flex_base.specs.Unsplit.{Machine, instruction_at, reach, reach_from, has_ended}
 use Rattle.flex_base.specs.Rounds.{rounds}
+use Rattle.flex_base.specs.declared.engine.Engine.{Engine}
 use Rattle.flex_base.specs.declared.event.Event.{Event}
 use Rattle.access_record.specs.Buses.{ram_banks}
 use Rattle.access_record.specs.Passes.{Enrolment}
-use Rattle.transplant_plan.specs.Split.{split, split_run, holder_of}
-use Rattle.transplant_plan.specs.declared.plan.Plan.{Plan}
+use Rattle.transplant_plan.specs.Split.{Splitting, split_run, holder_of}
 use Rattle.mem_lines.specs.Bank.{is_bank_count}
 use Rattle.mem_banks.specs.Plain.{Plain, numbers_below}
 use Rattle.mem_banks.specs.End.{IsFounderOf}
 use Rattle.context.specs.Contexts.{Context, IsOn, events_in}
-use Rattle.solo.specs.Solo.{Solo, settings_of, engines_of, done_at}
+use Rattle.solo.specs.Solo.{Solo, settings_of, engines_of, done_at, least_in}
 use Rattle.solo.specs.Rising.{Rises, numbered_from, AreOfHarts, of_hart}
 
 -- this is where some order leads
@@ -44,40 +44,50 @@ pub record Serves (setup : Setup) (u : Machine) (bus : Plain) : Type 0 where
   pub devices : done_at bus (ram_banks bus.run) ≡ u.devices
   pub placed : ArePlaced setup u.ram
 
--- these events, in the order in which they were made, are the plan's split of what the machine did; their numbers rise
-pub record IsMade (plan : Plan) (harts least : ℕ) (u : Machine) (made : List Event) : Type 0 where
+-- these events, in the order in which they were made, are the journal but for their numbers, which rise
+pub record IsMade (harts least : ℕ) (journal made : List Event) : Type 0 where
   pub rises : Rises 0 least made
   pub harts_are : AreOfHarts harts made
-  pub split_is : numbered_from 0 made ≡ split (engines_of plan) harts u.events
+  pub journal_is : numbered_from 0 made ≡ journal
 
--- a context stands for the hart of this number, and has its part of these events
-pub record IsHart (setup : Setup) (u : Machine) (s : Solo) (made : List Event) (h : ℕ) (c : Context) : Type 0 where
+-- a context stands for the hart of this number, is in this engine, and has its part of these events
+pub record IsHart (setup : Setup) (u : Machine) (s : Solo) (made : List Event) (h : ℕ) (engine : Engine) (c : Context) : Type 0 where
   pub on : IsOn s.bus.run c
   pub number : c.pass.hart.0 ≡ h
   pub plan_is : c.plan ≡ s.plan
   pub settings_are : c.settings ≡ s.settings
   pub instruction : instruction_at u h ≡ instruction_of setup h (events_in c)
   pub events : events_in c ≡ of_hart h made
-  pub engine : c.engine ≡ holder_of (engines_of s.plan) (split_run (engines_of s.plan) setup.harts u.events) h
+  pub engine_is : c.engine ≡ engine
 
 -- the harts whose passes close the record
 pub record AreEnrolled (setup : Setup) (bus : Plain) (founder : Enrolment) : Type 0 where
   pub founder_is : IsFounderOf bus.run founder
   pub enrolled : founder.harts ≡ numbers_below setup.harts
 
--- the machine stands for this state
-pub record IsAt (setup : Setup) (u : Machine) (s : Solo) : Type 0 where
+-- the machine stands for this state, and its events so far are this split
+pub record Holds (setup : Setup) (u : Machine) (p : Splitting) (s : Solo) : Type 0 where
   pub some : 0 < setup.harts
   pub few : setup.harts ≤ 32
   pub reached : IsReached setup u
   pub settings_is : s.settings ≡ settings_of setup
   pub halves : length u.harts ≡ setup.harts
   pub counted : length s.contexts ≡ setup.harts
+  pub engines : length p.engines ≡ setup.harts
   pub made : List Event
-  pub are_made : IsMade s.plan setup.harts s.bus.order u made
-  pub each : (h : ℕ) (other : Context) → h < setup.harts → IsHart setup u s made h (slice_index_or s.contexts h other)
+  pub are_made : IsMade setup.harts (least_in s.bus) p.events made
+  pub each : (h : ℕ) (other : Context) → h < setup.harts
+      → IsHart setup u s made h (holder_of (engines_of s.plan) p h) (slice_index_or s.contexts h other)
   pub memory : Serves setup u s.bus
   pub enrolment : AreEnrolled setup s.bus s.founder
+
+-- the plan's split of what the unsplit machine did so far
+abbrev pub split_of : Setup → Machine → Solo → Splitting
+split_of setup u s = split_run (engines_of s.plan) setup.harts u.events
+
+-- the machine stands for this state
+abbrev pub IsAt : Setup → Machine → Solo → Type 0
+IsAt setup u s = Holds setup u (split_of setup u s) s
 
 -- the rounds after this state are played, and the run has ended
 pub record IsPlayedOut (setup : Setup) (u : Machine) (s : Solo) : Type 0 where

@@ -24,9 +24,6 @@ use std::alloc::{AllocError, Global};
 use std::marker::Model;
 use transplant_plan::Plan;
 
-// The most events that one instruction makes.
-const MOST_EVENTS: usize = 10;
-
 /// All harts of a run on one thread. It must be spent, by `finish`.
 ///
 /// Contracts tell which state of the unsplit machine it stands for: each hart is where it is there,
@@ -139,9 +136,8 @@ impl SoloMachine {
         ensures at { (setup : Setup) (u : Machine) → IsAt setup u self.old → IsPlayedOut setup u self.new }
         ensures plan { self.new.plan ≡ self.old.plan }
     {
-        // Each round of a run that goes on has an event, so the events that there can be bound the
-        // rounds.
-        'rounds: for _ in 0..self.most_rounds() {
+        // Each round of a run that goes on has an event.
+        'rounds: for _ in 0..self.most_events() {
             if self.has_ended() {
                 return;
             }
@@ -184,8 +180,8 @@ impl SoloMachine {
         }
     }
 
-    // As many rounds as there can be events: 10 for each end that a hart may make, and its retirement.
-    fn most_rounds(&self) -> u64
+    // As many events as there can be: 10 for each end that a hart may make, and its retirement.
+    fn most_events(&self) -> u64
         requires { (setup : Setup) × (u : Machine) × IsAt setup u self.now }
         ensures { (setup : Setup) (u : Machine) → IsAt setup u self.now → result ≡ most_rounds setup }
     {
@@ -270,7 +266,7 @@ impl SoloMachine {
         ensures at { (setup : Setup) (u : Machine) → IsAt setup u self.old → IsTurned setup u h self.new }
         ensures plan { self.new.plan ≡ self.old.plan }
     {
-        'turn: for _ in 0..MOST_EVENTS {
+        'turn: for _ in 0..self.most_events() {
             match self.step(h) {
                 Step::Accessed => {}
                 Step::Ended => return,
