@@ -1,2 +1,10 @@
 pub mod Rising
 pub mod Rounds
+pub mod Standing
+pub mod Merging
+pub mod Stepping
+pub mod Making
+pub mod Flat
+pub mod Serving
+pub mod Waking
+pub mod Ending

@@ -4,7 +4,7 @@ use Rattle.flex_base.specs.Journal.{event}
 use Rattle.flex_base.specs.declared.event.Event.{Event}
 use Rattle.solo.specs.Rising.{Rises, numbered_from, AreOfHarts}
 
-rises_few : (low high : ℕ) (events : List Event) → Rises low high events → low + length events ≤ high
+pub rises_few : (low high : ℕ) (events : List Event) → Rises low high events → low + length events ≤ high
 rises_few low high [] rises = omega (arith, rises)
 rises_few low high (e ∷ events) rises = omega (arith, rises.0, rises_few (suc e.number) high events rises.1)
 

@@ -15,7 +15,7 @@ use Rattle.solo.specs.Playing.{AfterStep, Accesses, Finishes, Rests, IsTurned, P
 use Rattle.solo.specs.declared.machine.Step.{Step}
 use Rattle.solo.specs.declared.machine.Step.TheVariants as step_of
 
-reached_stand : (setup : Setup) (u : Machine) → IsReached setup u → AllStand setup u
+pub reached_stand : (setup : Setup) (u : Machine) → IsReached setup u → AllStand setup u
 reached_stand setup u reached =
     let Stand : Machine → Type 0 = λ m. AllStand setup m in
     subst Stand (sym reached.is) (all_stand setup reached.order)

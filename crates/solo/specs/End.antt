@@ -30,9 +30,9 @@ pub record HoldsRam (setup : Setup) (u : Machine) (banks bank : ℕ) (b : Bank) 
   pub is_bank : IsBank setup.ram banks bank b
   pub each : (address : ℕ) → IsIn b address → byte_held b address ≡ byte setup.image u.ram address
 
-pub record IsMemoryAt (setup : Setup) (banks : ℕ) (u : Machine) (memory : Memory) : Type 0 where
-  pub counted : length memory.lines ≡ banks
-  pub lines : (bank : ℕ) (b : Bank) → bank < banks → HoldsRam setup u banks bank (slice_index_or memory.lines bank b)
+pub record IsMemoryAt (setup : Setup) (u : Machine) (memory : Memory) : Type 0 where
+  pub lines : (bank : ℕ) (b : Bank) → bank < length memory.lines
+      → HoldsRam setup u (length memory.lines) bank (slice_index_or memory.lines bank b)
   pub devices : IsReplay setup.harts setup.input u.devices memory.devices
   pub keeps : memory.devices.console.keeps ≡ true
   pub settled : memory.unsettled ≡ None
@@ -44,4 +44,4 @@ pub record IsEnd (setup : Setup) (plan : Plan) (u : Machine) (ended : Ended) : T
   pub harts : (h : ℕ) (other : Hart) → h < setup.harts
       → StandsFor (slice_index_or ended.harts.items h other) (instruction_at u h).state
   pub logs : AreLogsOf setup.harts (split (engines_of plan) setup.harts u.events) ended.logs.items
-  pub memory : IsMemoryAt setup plan.banks u ended.memory
+  pub memory : IsMemoryAt setup u ended.memory

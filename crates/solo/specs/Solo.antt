@@ -1,5 +1,5 @@
 -- What contracts see of a solo machine.
-use Rattle.std.specs.Prelude.{ℕ, List, [], slice_index_or}
+use Rattle.std.specs.Prelude.{ℕ, List, [], length, slice_index_or}
 use Rattle.flex_base.specs.Setup.{Setup}
 use Rattle.flex_base.specs.Loaded.{Loaded}
 use Rattle.flex_base.specs.FlatMemory.{Done}
@@ -49,3 +49,7 @@ done_at bus bank = accesses_of (events_of (slice_index_or bus.logs bank []))
 -- the least number that it may give next
 abbrev pub least_in : Plain → ℕ
 least_in bus = bus.order
+
+-- how many banks it has, with the devices
+abbrev pub bank_count : Plain → ℕ
+bank_count bus = length bus.logs

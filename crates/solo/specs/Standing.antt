@@ -16,7 +16,7 @@ use Rattle.mem_lines.specs.Bank.{is_bank_count}
 use Rattle.mem_banks.specs.Plain.{Plain, numbers_below}
 use Rattle.mem_banks.specs.End.{IsFounderOf}
 use Rattle.context.specs.Contexts.{Context, IsOn, events_in}
-use Rattle.solo.specs.Solo.{Solo, settings_of, engines_of, done_at, least_in}
+use Rattle.solo.specs.Solo.{Solo, settings_of, engines_of, done_at, least_in, bank_count}
 use Rattle.solo.specs.Rising.{Rises, numbered_from, AreOfHarts, of_hart}
 
 -- this is where some order leads
@@ -40,6 +40,7 @@ pub record Serves (setup : Setup) (u : Machine) (bus : Plain) : Type 0 where
   pub room : bus.run.book.limits.room ≡ 24 * setup.budget + 24
   pub counted : is_bank_count (ram_banks bus.run) ≡ true
   pub whole : ram_banks bus.run + 1 ≡ bus.run.book.limits.banks
+  pub all : bank_count bus ≡ bus.run.book.limits.banks
   pub banks : (bank : ℕ) → bank < ram_banks bus.run → done_at bus bank ≡ of_bank (ram_banks bus.run) bank u.ram
   pub devices : done_at bus (ram_banks bus.run) ≡ u.devices
   pub placed : ArePlaced setup u.ram
@@ -69,6 +70,7 @@ pub record AreEnrolled (setup : Setup) (bus : Plain) (founder : Enrolment) : Typ
 pub record Holds (setup : Setup) (u : Machine) (p : Splitting) (s : Solo) : Type 0 where
   pub some : 0 < setup.harts
   pub few : setup.harts ≤ 32
+  pub ends : setup.harts * setup.budget ≤ 262144
   pub reached : IsReached setup u
   pub settings_is : s.settings ≡ settings_of setup
   pub halves : length u.harts ≡ setup.harts

@@ -1,14 +1,14 @@
-ghost use Rattle.std.specs.Prelude.{◌≡◌, ◌+◌, ◌++◌, ◌*◌, ◌<◌, ◌≤◌, ℕ, List, true, [], length, IfOk, vec_len, vec_capacity};
+ghost use Rattle.std.specs.Prelude.{◌≡◌, ◌+◌, ◌++◌, ◌*◌, ◌<◌, ◌≤◌, ℕ, List, true, [], length, IfOk, slice_index_or, vec_len, vec_capacity};
 ghost use Rattle.flex_base.specs.Setup.{Setup};
 ghost use Rattle.flex_base.specs.Limits.{is_lawful};
 ghost use Rattle.flex_base.specs.Loaded.{image_fits};
 ghost use Rattle.flex_base.specs.Unsplit.{Machine, begin, reach_from, step, has_ended, hart_numbers, is_idle, want_of};
 ghost use Rattle.flex_base.specs.Rounds.{most_rounds, rounds};
 ghost use Rattle.flex_base.specs.Devices.{device_stop};
-ghost use Rattle.context.specs.Contexts.{IsRunOf};
+ghost use Rattle.context.specs.Contexts.{Context, IsRunOf};
 ghost use Rattle.solo.specs.Solo.{setup_of};
 ghost use Rattle.solo.specs.Standing.{IsAt, IsPlayedOut};
-ghost use Rattle.solo.specs.Playing.{AfterStep, IsTurned, Playing, TellsIdle, Makes};
+ghost use Rattle.solo.specs.Playing.{AfterStep, IsTurned, Playing, TellsIdle, WantsOf};
 ghost use Rattle.solo.specs.End.{IsEnd};
 ghost use Rattle.solo.specs.Begun.{AreBegun};
 ghost use Rattle.solo.specs.Room.{are_empty};
@@ -185,8 +185,22 @@ impl SoloMachine {
         requires { (setup : Setup) × (u : Machine) × IsAt setup u self.now }
         ensures { (setup : Setup) (u : Machine) → IsAt setup u self.now → result ≡ most_rounds setup }
     {
-        let harts = u64::from(self.settings.harts);
-        10 * (harts * self.settings.budget) + harts
+        let settings = self.settings();
+        let harts = u64::from(settings.harts);
+        10 * (harts * settings.budget) + harts
+    }
+
+    fn settings(&self) -> Settings
+        ensures { result ≡ self.now.settings }
+    {
+        self.settings
+    }
+
+    // How many harts there are.
+    fn count(&self) -> usize
+        ensures { result ≡ self.now.settings.harts }
+    {
+        self.settings.harts as usize
     }
 
     // Why the run stops, once a stop stands.
@@ -210,7 +224,7 @@ impl SoloMachine {
         requires { (setup : Setup) × (u : Machine) × IsAt setup u self.now }
         ensures { (setup : Setup) (u : Machine) → IsAt setup u self.now → TellsIdle setup u result }
     {
-        for h in 0..self.contexts.len() {
+        for h in 0..self.count() {
             if !self.is_idle(h) {
                 return false;
             }
@@ -238,7 +252,7 @@ impl SoloMachine {
         ensures at { (setup : Setup) (u : Machine) → IsAt setup u self.old → IsAt setup (step setup u h) self.new }
         ensures plan { self.new.plan ≡ self.old.plan }
     {
-        if h < self.settings.harts {
+        if (h as usize) < self.count() {
             self.step(h as usize);
         }
     }
@@ -252,7 +266,7 @@ impl SoloMachine {
             → Playing setup u (done ++ hart_numbers setup) rest self.new }
         ensures plan { self.new.plan ≡ self.old.plan }
     {
-        for h in 0..self.contexts.len() {
+        for h in 0..self.count() {
             if !self.has_ended() {
                 self.turn(h);
             }
@@ -307,9 +321,9 @@ impl SoloMachine {
     // it.
     fn make(&mut self, h: usize, class: Class)
         requires hart { h < self.old.settings.harts }
-        requires at { (setup : Setup) × (u : Machine) × IsAt setup u self.old × Makes setup u h class }
-        ensures at { (setup : Setup) (u : Machine) → IsAt setup u self.old → Makes setup u h class
-            → IsAt setup (step setup u h) self.new }
+        requires at { (setup : Setup) × (u : Machine) × IsAt setup u self.old }
+        requires wanted { (other : Context) → WantsOf (slice_index_or self.old.contexts h other) class }
+        ensures at { (setup : Setup) (u : Machine) → IsAt setup u self.old → IsAt setup (step setup u h) self.new }
         ensures plan { self.new.plan ≡ self.old.plan }
     {
         let engine = self.plan.engine_for(class);

@@ -1,6 +1,6 @@
-ghost use Rattle.std.specs.Prelude.{◌≡◌, ◌≤◌, List, IfOk, map, reverse, vec_len, vec_capacity};
+ghost use Rattle.std.specs.Prelude.{◌≡◌, ◌<◌, ◌≤◌, ℕ, IfOk, map, reverse, slice_index_or, vec_len, vec_capacity};
 ghost use Rattle.flex_base.specs.declared.settings.Settings.{Settings};
-ghost use Rattle.context.specs.Contexts.{Context};
+ghost use Rattle.context.specs.Contexts.{Context, IsContext};
 ghost use Rattle.solo.specs.Room.{are_empty};
 
 use access_record::Pass;
@@ -37,6 +37,7 @@ pub(crate) fn take_apart(mut contexts: Vec<HartContext>, mut parts: Parts) -> Pa
         × (vec_len contexts ≤ vec_capacity parts.passes) }
     ensures harts { result.harts.items ≡ map (λ (c : Context). c.hart) contexts.items }
     ensures logs { result.logs.items ≡ map (λ (c : Context). c.log) contexts.items }
+    ensures contexts { (h : ℕ) (other : Context) → h < vec_len contexts → IsContext (slice_index_or contexts.items h other) }
     ensures passes { result.passes.items ≡ reverse (map (λ (c : Context). c.pass) contexts.items) }
 {
     while let Some(context) = contexts.pop() {

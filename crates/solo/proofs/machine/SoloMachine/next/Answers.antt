@@ -1,23 +1,21 @@
-use Rattle.std.proofs.Common.{rules, ◌≡◌, ◌+◌, ◌++◌, ◌*◌, ◌<◌, ◌≤◌, ℕ, List, true, [], length, IfOk, vec_len, vec_capacity, ◌-◌, ◌/◌, ◌%◌, Bool, false, nat_eq, nat_lt, ◌∷◌, slice_index_or, slice_set, bit_and, bit_or, Fits, w8, w32, w64, Bor, MutBor}
-use Rattle.flex_base.specs.Setup.{Setup}
-use Rattle.flex_base.specs.Limits.{is_lawful}
-use Rattle.flex_base.specs.Loaded.{image_fits}
-use Rattle.flex_base.specs.Unsplit.{Machine, begin, reach_from, step, has_ended, hart_numbers, is_idle, want_of}
-use Rattle.flex_base.specs.Rounds.{most_rounds, rounds}
-use Rattle.flex_base.specs.Devices.{device_stop}
-use Rattle.context.specs.Contexts.{IsRunOf}
-use Rattle.solo.specs.Solo.{setup_of}
-use Rattle.solo.specs.Standing.{IsAt, IsPlayedOut}
-use Rattle.solo.specs.Playing.{AfterStep, IsTurned, Playing, TellsIdle, Makes}
-use Rattle.solo.specs.End.{IsEnd}
-use Rattle.solo.specs.Begun.{AreBegun}
-use Rattle.solo.specs.Room.{are_empty}
+-- A number without a hart changes nothing.
+use Rattle.std.proofs.Common.{◌≡◌, ℕ, ◌≤◌, false, nat_lt, subst, sym, arith}
+use Rattle.std.proofs.lemmas.Bool.Decides.{nat_tests}
+use Rattle.flex_base.specs.Unsplit.{Machine}
+use Rattle.flex_base.proofs.Machines.{step_beyond}
+use Rattle.solo.specs.Standing.{IsAt}
+use Rattle.solo.proofs.Standing.{harts_are}
+use Rattle.solo.proofs.Rounds.{stepped}
 use Rattle.solo.proofs.machine.SoloMachine.next.Goals as goal
 
--- src/machine.rt:240:5
-pub returns-then-h-self-clause-at : goal.returns-then-h-self-clause-at
-returns-then-h-self-clause-at c = ?
+not_below : (h harts : ℕ) → harts ≤ h → nat_lt h harts ≡ false
+not_below h harts beyond = grind (arith, nat_tests)
 
--- src/machine.rt:240:5
-pub returns-else-h-self-clause-at : goal.returns-else-h-self-clause-at
-returns-else-h-self-clause-at c = ?
+pub returns-then-h-count-clause-at : goal.returns-then-h-count-clause-at
+returns-then-h-count-clause-at c = λ setup u at. stepped setup u c.args.h c.step.result c.step.new.self (c.step.ensures.after setup u at)
+
+pub returns-else-h-count-clause-at : goal.returns-else-h-count-clause-at
+returns-else-h-count-clause-at c = λ setup u at.
+    let beyond : nat_lt c.args.h setup.harts ≡ false = not_below c.args.h setup.harts (omega (arith, c.if-h-count.false, c.count.ensures, harts_are setup u _ c.args.self.now at)) in
+    let At : Machine → Type 0 = λ m. IsAt setup m c.args.self.now in
+    subst At (sym (step_beyond setup u c.args.h beyond)) at

@@ -1,35 +1,35 @@
-use Rattle.std.proofs.Common.{rules, ◌≡◌, ◌+◌, ◌++◌, ◌*◌, ◌<◌, ◌≤◌, ℕ, List, true, [], length, IfOk, vec_len, vec_capacity, ◌-◌, ◌/◌, ◌%◌, Bool, false, nat_eq, nat_lt, ◌∷◌, slice_index_or, slice_set, bit_and, bit_or, Fits, w8, w32, w64, Bor, MutBor}
-use Rattle.flex_base.specs.Setup.{Setup}
-use Rattle.flex_base.specs.Limits.{is_lawful}
-use Rattle.flex_base.specs.Loaded.{image_fits}
-use Rattle.flex_base.specs.Unsplit.{Machine, begin, reach_from, step, has_ended, hart_numbers, is_idle, want_of}
-use Rattle.flex_base.specs.Rounds.{most_rounds, rounds}
-use Rattle.flex_base.specs.Devices.{device_stop}
-use Rattle.context.specs.Contexts.{IsRunOf}
-use Rattle.solo.specs.Solo.{setup_of}
-use Rattle.solo.specs.Standing.{IsAt, IsPlayedOut}
-use Rattle.solo.specs.Playing.{AfterStep, IsTurned, Playing, TellsIdle, Makes}
-use Rattle.solo.specs.End.{IsEnd}
-use Rattle.solo.specs.Begun.{AreBegun}
-use Rattle.solo.specs.Room.{are_empty}
+-- One more name.
+use Rattle.std.proofs.Common.{◌≡◌, ℕ, List, take, get_or, refl, subst, sym, ◌∙◌, arith}
+use Rattle.std.proofs.lemmas.List.{take_more, take_all}
+use Rattle.flex_base.specs.Unsplit.{reach_from}
+use Rattle.solo.specs.Standing.{IsAt}
+use Rattle.solo.proofs.Rounds.{at_none, at_more}
 use Rattle.solo.proofs.machine.SoloMachine.play.Goals as goal
 
--- src/machine.rt:130:9
 pub loop-h-init : goal.loop-h-init
-loop-h-init c = ?
+loop-h-init c = (refl, λ setup u at. at_none setup u c.args.self.now at)
 
--- src/machine.rt:131:13
 pub next-requires : goal.next-requires
-next-requires c = ?
+next-requires c =
+    let first = c.requires.at in
+    record { at = (first.0, _, c.loop-h.invariant.1 first.0 first.1 first.2) }
 
--- src/machine.rt:130:9
 pub loop-h-preserved : goal.loop-h-preserved
-loop-h-preserved c = ?
+loop-h-preserved c = (
+  c.next.ensures.plan ∙ c.loop-h.invariant.0,
+  λ setup u at.
+      let order = c.args.order.now in
+      let i = c.loop-h.h-index in
+      let names = take i order in
+      let At : List ℕ → Type 0 = λ ns. IsAt setup (reach_from setup u ns) c.next.new.self in
+      subst At (sym (take_more order i 0 c.loop-h-test.true))
+      (at_more setup u names (get_or order i 0) c.next.new.self (c.next.ensures.at setup (reach_from setup u names) (c.loop-h.invariant.1 setup u at))),
+)
 
--- src/machine.rt:124:5
 pub returns-clause-at : goal.returns-clause-at
-returns-clause-at c = ?
-
--- src/machine.rt:124:5
-pub returns-clause-plan : goal.returns-clause-plan
-returns-clause-plan c = ?
+returns-clause-at c = λ setup u at.
+    let order = c.args.order.now in
+    let i = c.loop-h.h-index in
+    let all : take i order ≡ order = take_all i order (omega (arith, c.loop-h-test.false)) in
+    let At : List ℕ → Type 0 = λ ns. IsAt setup (reach_from setup u ns) c.loop-h.self in
+    subst At all (c.loop-h.invariant.1 setup u at)

@@ -1,47 +1,50 @@
-use Rattle.std.proofs.Common.{rules, ◌≡◌, ◌+◌, ◌++◌, ◌*◌, ◌<◌, ◌≤◌, ℕ, List, true, [], length, IfOk, vec_len, vec_capacity, ◌-◌, ◌/◌, ◌%◌, Bool, false, nat_eq, nat_lt, ◌∷◌, slice_index_or, slice_set, bit_and, bit_or, Fits, w8, w32, w64, Bor, MutBor}
-use Rattle.flex_base.specs.Setup.{Setup}
-use Rattle.flex_base.specs.Limits.{is_lawful}
-use Rattle.flex_base.specs.Loaded.{image_fits}
-use Rattle.flex_base.specs.Unsplit.{Machine, begin, reach_from, step, has_ended, hart_numbers, is_idle, want_of}
-use Rattle.flex_base.specs.Rounds.{most_rounds, rounds}
-use Rattle.flex_base.specs.Devices.{device_stop}
-use Rattle.context.specs.Contexts.{IsRunOf}
-use Rattle.solo.specs.Solo.{setup_of}
-use Rattle.solo.specs.Standing.{IsAt, IsPlayedOut}
-use Rattle.solo.specs.Playing.{AfterStep, IsTurned, Playing, TellsIdle, Makes}
-use Rattle.solo.specs.End.{IsEnd}
-use Rattle.solo.specs.Begun.{AreBegun}
-use Rattle.solo.specs.Room.{are_empty}
+-- Rounds, until the run has ended or all of them are made.
+use Rattle.std.proofs.Common.{◌-◌, ◌+◌, ◌<◌, refl, sym, arith, ◌∙◌}
+use Rattle.flex_base.specs.Unsplit.{hart_numbers}
+use Rattle.flex_base.specs.Rounds.{repeated, most_rounds}
+use Rattle.solo.proofs.Rounds.{playing_rounds, playing_round, playing_as, repeated_push, played_all, played_over}
 use Rattle.solo.proofs.machine.SoloMachine.play_out.Goals as goal
 
--- src/machine.rt:144:9
 pub rounds-init : goal.rounds-init
-rounds-init c = ?
+rounds-init c = (refl, λ setup u at. playing_rounds setup u c.args.self.now at)
 
--- src/machine.rt:145:16
 pub has_ended-requires : goal.has_ended-requires
-has_ended-requires c = ?
+has_ended-requires c =
+    let first = c.requires.at in
+    (first.0, _, (c.rounds.invariant.1 first.0 first.1 first.2).at)
 
--- src/machine.rt:146:17
 pub returns-then-has_ended-clause-at : goal.returns-then-has_ended-clause-at
-returns-then-has_ended-clause-at c = ?
+returns-then-has_ended-clause-at c = λ setup u at.
+    let playing = c.rounds.invariant.1 setup u at in
+    played_over setup u _ _ c.args.self.now c.rounds.self at playing (sym (c.has_ended.ensures setup _ playing.at) ∙ c.if-has_ended.true)
 
--- src/machine.rt:146:17
 pub returns-then-has_ended-clause-plan : goal.returns-then-has_ended-clause-plan
-returns-then-has_ended-clause-plan c = ?
+returns-then-has_ended-clause-plan c = c.rounds.invariant.0
 
--- src/machine.rt:148:13
 pub round-requires : goal.round-requires
-round-requires c = ?
+round-requires c =
+    let first = c.requires.at in
+    let setup = first.0 in
+    let u = first.1 in
+    (setup, u, _, _, playing_round setup u c.rounds.counter c.rounds.self
+    (omega (arith, c.rounds-test.true, c.most_events-end.ensures setup u first.2)) (c.rounds.invariant.1 setup u first.2))
 
--- src/machine.rt:144:9
 pub rounds-preserved : goal.rounds-preserved
-rounds-preserved c = ?
+rounds-preserved c = (
+  c.round.ensures.plan ∙ c.rounds.invariant.0,
+  λ setup u at.
+      let k = c.rounds.counter in
+      let numbers = hart_numbers setup in
+      let rest = repeated (most_rounds setup - (k + 1)) numbers in
+      let below : k < most_rounds setup = omega (arith, c.rounds-test.true, c.most_events-end.ensures setup u at) in
+      let playing = playing_round setup u k c.rounds.self below (c.rounds.invariant.1 setup u at) in
+      playing_as setup u _ _ rest rest c.round.new.self (repeated_push k numbers) refl (c.round.ensures.at setup u (repeated k numbers) rest playing),
+)
 
--- src/machine.rt:137:5
 pub returns-clause-at : goal.returns-clause-at
-returns-clause-at c = ?
+returns-clause-at c = λ setup u at.
+    played_all setup u c.rounds.counter c.args.self.now c.rounds.self at
+    (omega (arith, c.rounds-test.false, c.most_events-end.ensures setup u at)) (c.rounds.invariant.1 setup u at)
 
--- src/machine.rt:137:5
 pub returns-clause-plan : goal.returns-clause-plan
-returns-clause-plan c = ?
+returns-clause-plan c = c.rounds.invariant.0

@@ -1,0 +1,4 @@
+use Rattle.solo.proofs.machine.SoloMachine.stop.Goals as goal
+
+pub returns : goal.returns
+returns c = ?
