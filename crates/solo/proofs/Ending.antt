@@ -48,7 +48,7 @@ all_below n harts (e ∷ events) are each = (
 
 -- How many events there are.
 
-sum_same : (f g : ℕ → ℕ) (n : ℕ) → ((k : ℕ) → k < n → f k ≡ g k) → sum_below n f ≡ sum_below n g
+pub sum_same : (f g : ℕ → ℕ) (n : ℕ) → ((k : ℕ) → k < n → f k ≡ g k) → sum_below n f ≡ sum_below n g
 sum_same f g zero same = refl
 sum_same f g (suc n) same =
     let rest = sum_same f g n (λ k below. same k (omega (arith, below))) in
