@@ -1,5 +1,5 @@
 -- An instruction makes few events, so a hart makes few.
-use Rattle.std.proofs.Common.{◌≡◌, ◌≢◌, ℕ, ◌+◌, ◌-◌, ◌*◌, ◌<◌, ◌≤◌, zero, suc, Bool, true, false, if◌then◌else◌, ◌==◌, List, ◌++◌, ◌∷◌, [], Option, None, Some, inl, inr, refl, sym, ap, subst, arith}
+use Rattle.std.proofs.Common.{◌≡◌, ℕ, ◌+◌, ◌-◌, ◌*◌, ◌<◌, zero, suc, Bool, true, false, if◌then◌else◌, ◌==◌, List, ◌++◌, ◌∷◌, [], Option, None, Some, inl, inr, refl, sym, ap, subst, arith}
 use Rattle.std.proofs.lemmas.Bool.{cases_eq}
 use Rattle.flex_base.specs.Setup.{Setup}
 use Rattle.flex_base.specs.State.{State, reg}
@@ -8,7 +8,7 @@ use Rattle.flex_base.specs.Word.{wrap, is_multiple}
 use Rattle.flex_base.specs.Causes.{instruction_address_misaligned, instruction_access_fault, load_access_fault, store_access_fault, misaligned, access_fault}
 use Rattle.flex_base.specs.Decoding.{decoded}
 use Rattle.flex_base.specs.FlatMemory.{is_reserved, reservation_set}
-use Rattle.flex_base.specs.StoryTree.{Want, Asks, Ends, IsParked, Story, Says, Closes, StaysOver, Parks, want, goes, after_one, after_park}
+use Rattle.flex_base.specs.StoryTree.{Ends, IsParked, Story, Says, Closes, StaysOver, Parks, want, goes, after_one}
 use Rattle.flex_base.specs.Ends.{ends, traps, traps_illegal, returns, jumps, computes, passes, concludes}
 use Rattle.flex_base.specs.Translating.{translates}
 use Rattle.flex_base.specs.Story.{story, pulses, after_pulse, begins, interrupted_by, fetches_at, works, branches, is_taken, supervises, is_machine, closes_csr, updates_csr, asks_csr, uses_csr, fences_memory, has_pending, ends_wait, waits, at_place, reaches, in_ram_at, loads_at, stores_at, loads_reserved_at, stores_conditional_at, modifies_at, is_tick}
@@ -28,7 +28,7 @@ use Rattle.flex_base.specs.declared.settings.Place.{Place}
 use Rattle.flex_base.specs.declared.settings.Place.TheVariants as place
 use Rattle.flex_base.specs.declared.translation.Kind.{Kind}
 use Rattle.flex_base.specs.declared.translation.Kind.TheVariants as kind
-use Rattle.flex_base.proofs.Stories.{goes_on, goes_push, retires, story_spent, story_unspent}
+use Rattle.flex_base.proofs.Stories.{goes_on, goes_push, story_spent, story_unspent}
 use Rattle.flex_base.proofs.Translating.{more, PassesWalks, translates_has}
 use Rattle.flex_base.specs.Following.{next_access, wanted}
 use Rattle.context.specs.Fewness.{Within, IsFew}

@@ -3,7 +3,6 @@ use Rattle.std.proofs.Common.{◌≡◌, ◌≢◌, ℕ, ◌+◌, ◌*◌, ◌�
 use Rattle.std.proofs.lemmas.List.{map-append, length-append}
 use Rattle.flex_base.specs.Classes.{class_of_what}
 use Rattle.flex_base.specs.Journal.{is_handover}
-use Rattle.flex_base.specs.StoryTree.{Want, Asks, Ends, IsOver, IsParked}
 use Rattle.flex_base.specs.declared.class.Class.{Class}
 use Rattle.flex_base.specs.declared.class.Class.TheVariants as class
 use Rattle.flex_base.specs.declared.engine.Engine.{Engine}

@@ -1,9 +1,9 @@
 -- A hart at its start is in a context that keeps all.
-use Rattle.std.proofs.Common.{◌≡◌, ℕ, ◌+◌, ◌-◌, ◌*◌, ◌<◌, ◌≤◌, Bool, true, false, ◌&&◌, List, [], length, None, inl, refl, ap, sym, subst, ◌∙◌, arith}
+use Rattle.std.proofs.Common.{◌≡◌, ℕ, ◌+◌, ◌*◌, ◌<◌, Bool, true, false, ◌&&◌, List, [], length, inl, refl, ap, sym, subst, ◌∙◌, arith}
 use Rattle.flex_base.specs.Setup.{Setup}
-use Rattle.flex_base.specs.State.{State, start, IsFit}
+use Rattle.flex_base.specs.State.{start}
 use Rattle.flex_base.specs.Limits.{mebibyte, is_within, is_lawful}
-use Rattle.flex_base.specs.Loaded.{Loaded, image_fits, part_fits}
+use Rattle.flex_base.specs.Loaded.{Loaded, image_fits}
 use Rattle.flex_base.specs.Place.{in_ram}
 use Rattle.flex_base.specs.Word.{is_multiple}
 use Rattle.flex_base.specs.Following.{leads_to, is_waiting}
@@ -12,7 +12,7 @@ use Rattle.flex_base.specs.declared.engine.Engine.{Engine}
 use Rattle.flex_base.specs.declared.settings.Settings.{Settings}
 use Rattle.flex_base.proofs.Beginning.{begins_fit}
 use Rattle.flex_base.proofs.Following.{is_waiting-none}
-use Rattle.hart_story.specs.Progress.{IsIn, begun}
+use Rattle.hart_story.specs.Progress.{begun}
 use Rattle.hart_story.specs.StandsFor.{StandsFor}
 use Rattle.hart_story.specs.declared.hart.Hart.{Hart}
 use Rattle.hart_story.specs.declared.progress.Progress.{Progress}
@@ -24,7 +24,7 @@ use Rattle.access_record.specs.Buses.{Run, NamePlaces, events_of, waits}
 use Rattle.transplant_plan.specs.Planning.{engine_at}
 use Rattle.transplant_plan.specs.Split.{Nothing}
 use Rattle.transplant_plan.specs.declared.plan.Plan.{Plan}
-use Rattle.context.specs.Contexts.{Context, context_of, new_context, layout_of, IsRunOf, instruction_at, StandsIn, IsContext, IsOn}
+use Rattle.context.specs.Contexts.{Context, context_of, new_context, IsRunOf, StandsIn, IsContext, IsOn}
 use Rattle.context.proofs.Fewness.{story_within}
 
 third_true : (a b c d : Bool) → (a && b && c && d) ≡ true → c ≡ true

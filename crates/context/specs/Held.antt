@@ -1,5 +1,5 @@
 -- Where the pass of a context lies.
-use Rattle.std.specs.Prelude.{ℕ, [], Option, None, Some}
+use Rattle.std.specs.Prelude.{[], Option, None, Some}
 use Rattle.access_record.specs.Passes.{PassOfHart}
 
 -- the pass that lies there

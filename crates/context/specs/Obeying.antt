@@ -25,6 +25,12 @@ IsFor plan (wants.Ask class) engine = plan class ≡ engine
 IsFor plan (wants.Finish class) engine = plan class ≡ engine
 IsFor plan other engine = ⊥
 
+-- the engine of what it wants; who wants no event stays where it is
+abbrev pub engine_wanted : (Class → Engine) → Engine → Wants → Engine
+engine_wanted plan at (wants.Ask class) = plan class
+engine_wanted plan at (wants.Finish class) = plan class
+engine_wanted plan at other = at
+
 -- a hart's events by the engines in which they were made
 abbrev pub moves : List Event → List (Engine × What)
 moves events = map (λ (e : Event). (e.engine, e.what)) events

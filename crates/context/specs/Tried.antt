@@ -1,5 +1,5 @@
 -- What the tests run.
-use Rattle.std.specs.Prelude.{◌≡◌, ℕ}
+use Rattle.std.specs.Prelude.{◌≡◌}
 use Rattle.flex_base.specs.Loaded.{Loaded}
 use Rattle.access_record.specs.Buses.{Run}
 

@@ -8,7 +8,9 @@ ghost use Rattle.flex_base.specs.Following.{wanted};
 ghost use Rattle.hart_story.specs.Need.{need_of, AsksPlaced};
 ghost use Rattle.access_record.specs.Buses.{Run};
 ghost use Rattle.context.specs.declared.wants.Wants.TheVariants as Wants;
-ghost use Rattle.context.specs.Contexts.{new_context, layout_of, IsRunOf, instruction_at, IsWanting, IsWantedIn, IsAsking, IsEnding, IsContext, IsOn, IsSame, Steps, Moves, HasTried};
+ghost use Rattle.context.specs.declared.wants.Wants.{Wants};
+ghost use Rattle.context.specs.Obeying.{engine_wanted};
+ghost use Rattle.context.specs.Contexts.{new_context, plan_of, layout_of, IsRunOf, instruction_at, IsWanting, IsWantedIn, IsAsking, IsEnding, IsContext, IsOn, IsSame, Steps, Moves, HasTried};
 
 use crate::held::HeldPass;
 use crate::wants::Wants;
@@ -59,13 +61,7 @@ impl HartContext {
     ///
     /// The hart is at its start in an image that fits. The pass is of that hart and its log is empty;
     /// so is the log, which has room for 24 events an end and 24 more.
-    pub fn new(
-        hart: Hart,
-        pass: Pass,
-        log: HartLog,
-        plan: Plan,
-        settings: &Settings,
-    ) -> HartContext
+    pub fn new(hart: Hart, pass: Pass, log: HartLog, plan: Plan, settings: &Settings) -> HartContext
         requires lawful { is_lawful settings.now ≡ true }
         requires image { (image : Loaded) × (image_fits settings.now.ram image ≡ true)
             × StandsFor hart (start pass.hart.0 image.entry) }
@@ -119,6 +115,19 @@ impl HartContext {
         }
     }
 
+    /// The engine to which the plan gives what the hart wants. One that is parked or over wants the
+    /// engine that it is in.
+    pub fn wanted_engine(&self) -> Engine
+        ensures { (w : Wants) → IsWanting self.now w → result ≡ engine_wanted (plan_of self.now) self.now.engine w }
+    {
+        match self.wants() {
+            Wants::Ask(class) => self.plan.engine_for(class),
+            Wants::Finish(class) => self.plan.engine_for(class),
+            Wants::Parked => self.engine,
+            Wants::Over => self.engine,
+        }
+    }
+
     /// How many instructions and traps of the hart have ended.
     pub fn ends(&self) -> u64
         ensures { (setup : Setup) → IsRunOf self.now.entry self.now.settings setup
@@ -143,7 +152,7 @@ impl HartContext {
         requires on { IsOn (B.run bus.old) self }
         requires wanted { IsWantedIn self self.engine }
         requires left { 0 < self.left }
-        ensures one { Steps (B.run bus.old).setup (B.order bus.old) (B.order bus.new) self result }
+        ensures one { Steps (B.run bus.old) (B.history bus.old) (B.history bus.new) self result }
         ensures same { IsSame self result }
         ensures on { IsOn (B.run bus.old) result }
         ensures bus { B.run bus.new ≡ B.run bus.old }
@@ -158,7 +167,7 @@ impl HartContext {
     pub fn try_wake<B: Bus>(self, bus: &mut B) -> (HartContext, bool)
         requires on { IsOn (B.run bus.old) self }
         requires parked { IsWanting self Wants.Parked }
-        ensures one { HasTried (B.run bus.old) (B.order bus.old) (B.order bus.new) self result.0 result.1 }
+        ensures one { HasTried (B.run bus.old) (B.history bus.old) (B.history bus.new) self result.0 result.1 }
         ensures same { IsSame self result.0 }
         ensures on { IsOn (B.run bus.old) result.0 }
         ensures bus { B.run bus.new ≡ B.run bus.old }
@@ -176,7 +185,7 @@ impl HartContext {
         requires wanted { IsWantedIn self to }
         requires other { to ≢ self.engine }
         requires left { 0 < self.left }
-        ensures one { Moves (B.order bus.old) (B.order bus.new) to self result }
+        ensures one { Moves (B.run bus.old) (B.history bus.old) (B.history bus.new) to self result }
         ensures same { IsSame self result }
         ensures on { IsOn (B.run bus.old) result }
         ensures bus { B.run bus.new ≡ B.run bus.old }
@@ -191,7 +200,7 @@ impl HartContext {
         requires on { IsOn (B.run bus.old) self.old }
         requires wanted { IsWantedIn self.old self.old.engine }
         requires left { 0 < self.old.left }
-        ensures one { Steps (B.run bus.old).setup (B.order bus.old) (B.order bus.new) self.old self.new }
+        ensures one { Steps (B.run bus.old) (B.history bus.old) (B.history bus.new) self.old self.new }
         ensures same { IsSame self.old self.new }
         ensures on { IsOn (B.run bus.old) self.new }
         ensures bus { B.run bus.new ≡ B.run bus.old }
@@ -208,7 +217,7 @@ impl HartContext {
     pub fn wake<B: Bus>(&mut self, bus: &mut B) -> bool
         requires on { IsOn (B.run bus.old) self.old }
         requires parked { IsWanting self.old Wants.Parked }
-        ensures one { HasTried (B.run bus.old) (B.order bus.old) (B.order bus.new) self.old self.new result }
+        ensures one { HasTried (B.run bus.old) (B.history bus.old) (B.history bus.new) self.old self.new result }
         ensures same { IsSame self.old self.new }
         ensures on { IsOn (B.run bus.old) self.new }
         ensures bus { B.run bus.new ≡ B.run bus.old }
@@ -216,9 +225,16 @@ impl HartContext {
         match self.pass.wake(bus, self.engine) {
             Some((number, reply)) => {
                 let layout = layout_of(&self.settings);
-                give(&self.hart, &mut self.progress, &layout, self.settings.budget, reply);
+                give(
+                    &self.hart,
+                    &mut self.progress,
+                    &layout,
+                    self.settings.budget,
+                    reply,
+                );
                 let access = Access::Pulse { tick: false };
-                self.log.push_access(number, self.pass.hart(), self.engine, access, reply);
+                self.log
+                    .push_access(number, self.pass.hart(), self.engine, access, reply);
                 true
             }
             None => false,
@@ -231,7 +247,7 @@ impl HartContext {
         requires wanted { IsWantedIn self.old to }
         requires other { to ≢ self.old.engine }
         requires left { 0 < self.old.left }
-        ensures one { Moves (B.order bus.old) (B.order bus.new) to self.old self.new }
+        ensures one { Moves (B.run bus.old) (B.history bus.old) (B.history bus.new) to self.old self.new }
         ensures same { IsSame self.old self.new }
         ensures on { IsOn (B.run bus.old) self.new }
         ensures bus { B.run bus.new ≡ B.run bus.old }
@@ -264,14 +280,20 @@ impl HartContext {
     fn make_access<B: Bus>(&mut self, bus: &mut B, access: Access)
         requires on { IsOn (B.run bus.old) self.old }
         requires asks { IsAsking self.old access }
-        ensures one { Steps (B.run bus.old).setup (B.order bus.old) (B.order bus.new) self.old self.new }
+        ensures one { Steps (B.run bus.old) (B.history bus.old) (B.history bus.new) self.old self.new }
         ensures same { IsSame self.old self.new }
         ensures on { IsOn (B.run bus.old) self.new }
         ensures bus { B.run bus.new ≡ B.run bus.old }
     {
         let (number, reply) = self.pass.access(bus, self.engine, access);
         let layout = layout_of(&self.settings);
-        give(&self.hart, &mut self.progress, &layout, self.settings.budget, reply);
+        give(
+            &self.hart,
+            &mut self.progress,
+            &layout,
+            self.settings.budget,
+            reply,
+        );
         self.log
             .push_access(number, self.pass.hart(), self.engine, access, reply);
     }
@@ -281,7 +303,7 @@ impl HartContext {
         requires on { IsOn (B.run bus.old) self.old }
         requires ends { IsEnding self.old }
         requires left { 0 < self.old.left }
-        ensures one { Steps (B.run bus.old).setup (B.order bus.old) (B.order bus.new) self.old self.new }
+        ensures one { Steps (B.run bus.old) (B.history bus.old) (B.history bus.new) self.old self.new }
         ensures same { IsSame self.old self.new }
         ensures on { IsOn (B.run bus.old) self.new }
         ensures bus { B.run bus.new ≡ B.run bus.old }

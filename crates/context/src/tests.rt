@@ -59,16 +59,16 @@ enum Did {
 }
 
 // Makes a hart's next event, or the handover that is due before it.
-fn next<B: Bus>(context: HartContext, bus: &mut B, plan: &Plan) -> (HartContext, Did)
+fn next<B: Bus>(context: HartContext, bus: &mut B) -> (HartContext, Did)
     requires on { IsOn (B.run bus.old) context }
-    requires plan { context.plan ≡ plan.now }
     ensures on { IsOn (B.run bus.new) result.0 }
     ensures same { IsSame context result.0 }
     ensures bus { B.run bus.new ≡ B.run bus.old }
 {
+    let to = context.wanted_engine();
     match context.wants() {
-        Wants::Ask(class) => go(context, bus, plan.engine_for(class)),
-        Wants::Finish(class) => go(context, bus, plan.engine_for(class)),
+        Wants::Ask(_) => go(context, bus, to),
+        Wants::Finish(_) => go(context, bus, to),
         Wants::Parked => try_to_wake(context, bus),
         Wants::Over => (context, Did::Nothing),
     }
@@ -103,14 +103,8 @@ fn try_to_wake<B: Bus>(context: HartContext, bus: &mut B) -> (HartContext, Did)
 }
 
 // Makes so many calls, and counts those that do what the table says.
-fn play<B: Bus>(
-    context: HartContext,
-    bus: &mut B,
-    plan: &Plan,
-    table: &[Did],
-) -> (HartContext, u64)
+fn play<B: Bus>(context: HartContext, bus: &mut B, table: &[Did]) -> (HartContext, u64)
     requires on { IsOn (B.run bus.old) context }
-    requires plan { context.plan ≡ plan.now }
     ensures on { IsOn (B.run bus.new) result.0 }
     ensures same { IsSame context result.0 }
     ensures bus { B.run bus.new ≡ B.run bus.old }
@@ -118,7 +112,7 @@ fn play<B: Bus>(
     let mut context = context;
     let mut right = 0;
     for did in table {
-        let (after, made) = next(context, bus, plan);
+        let (after, made) = next(context, bus);
         context = after;
         if made == *did && right < u64::MAX {
             right += 1;
@@ -144,7 +138,6 @@ fn begin(
     requires log { log ≡ record { events = []; room = 408 } }
     ensures founder { result.0 ≡ add_hart founder id }
     ensures hart { result.1.pass.hart ≡ id }
-    ensures plan { result.1.plan ≡ plan }
     ensures on { IsOn bus.new.run result.1 }
     ensures same { bus.new.run ≡ bus.old.run }
 {
@@ -221,9 +214,9 @@ fn harts_go_from_engine_to_engine(rt: HostRuntime) -> Result<(), Fail> {
     };
     let (founder, second) = begin(&mut bus, founder, &image, HartId(1), second_log, plan);
     let (founder, first) = begin(&mut bus, founder, &image, HartId(0), first_log, plan);
-    let (first, waits) = play(first, &mut bus, &plan, WAITS.as_slice());
-    let (second, sends) = play(second, &mut bus, &plan, SENDS.as_slice());
-    let (first, goes_on) = play(first, &mut bus, &plan, GOES_ON.as_slice());
+    let (first, waits) = play(first, &mut bus, WAITS.as_slice());
+    let (second, sends) = play(second, &mut bus, SENDS.as_slice());
+    let (first, goes_on) = play(first, &mut bus, GOES_ON.as_slice());
     let (hart, first_pass, log) = first.dissolve();
     let (_, second_pass, second_log) = second.dissolve();
     passes.push_reserved(first_pass);
@@ -233,6 +226,9 @@ fn harts_go_from_engine_to_engine(rt: HostRuntime) -> Result<(), Fail> {
     end.discard();
     assert_eq!(rt; [waits, sends, goes_on], [18, 9, 2]);
     assert_eq!(rt; [log.len(), second_log.len(), closed.count], [19, 9, 28]);
-    assert_eq!(rt; [count_amos(&log), hart.regs.get(6), hart.regs.ends], [1, 0x397, 5]);
+    assert_eq!(rt;
+        [count_amos(&log), hart.regs.get(6), hart.regs.ends],
+        [1, 0x397, 5]
+    );
     Ok(())
 }

@@ -1,20 +1,14 @@
-use Rattle.std.proofs.Common.{◌≡◌, ap, sym, ◌∙◌}
-use Rattle.flex_base.specs.declared.class.Class.{Class}
-use Rattle.transplant_plan.specs.Planning.{engine_at}
-use Rattle.transplant_plan.specs.declared.plan.Plan.{Plan}
+use Rattle.std.proofs.Common.{sym, ◌∙◌}
 use Rattle.context.specs.declared.wants.Wants.TheVariants as wants
+use Rattle.context.specs.Contexts.{IsWanting}
 use Rattle.context.proofs.tests.next.Goals as goal
 
 pub go-requires-clause-wanted : goal.go-requires-clause-wanted
-go-requires-clause-wanted g c = (
-  wants.Ask c.in-Ask.class,
-  λ setup of. c.wants.ensures setup of ∙ c.in-Ask.is,
-  ap (λ (p : Plan). engine_at p.engines c.in-Ask.class) c.requires.plan ∙ sym (c.engine_for.ensures.engine 0),
-)
+go-requires-clause-wanted g c =
+    let asks : IsWanting c.args.context (wants.Ask c.in-Ask.field-0) = λ setup of. c.wants.ensures setup of ∙ c.in-Ask.is in
+    (wants.Ask c.in-Ask.field-0, asks, sym (c.wanted_engine-to.ensures (wants.Ask c.in-Ask.field-0) asks))
 
 pub go-requires-in-Finish-clause-wanted : goal.go-requires-in-Finish-clause-wanted
-go-requires-in-Finish-clause-wanted g c = (
-  wants.Finish c.in-Finish.class,
-  λ setup of. c.wants.ensures setup of ∙ c.in-Finish.is,
-  ap (λ (p : Plan). engine_at p.engines c.in-Finish.class) c.requires.plan ∙ sym (c.engine_for-in-Finish.ensures.engine 0),
-)
+go-requires-in-Finish-clause-wanted g c =
+    let ends : IsWanting c.args.context (wants.Finish c.in-Finish.field-0) = λ setup of. c.wants.ensures setup of ∙ c.in-Finish.is in
+    (wants.Finish c.in-Finish.field-0, ends, sym (c.wanted_engine-to.ensures (wants.Finish c.in-Finish.field-0) ends))

@@ -1,5 +1,4 @@
 -- What is needed is the next event, in an engine that runs it.
-use Rattle.std.proofs.Common.{◌≡◌}
 use Rattle.context.proofs.Keeping.{asking_by, ending_by, needs_event}
 use Rattle.context.proofs.context.HartContext.advance.Goals as goal
 

@@ -1,5 +1,5 @@
 -- The end is the one to which the hart's instruction comes, and the next one begins.
-use Rattle.std.proofs.Common.{◌≡◌, ◌+◌, ◌<◌, refl, sym, subst, arith}
+use Rattle.std.proofs.Common.{◌<◌, sym, subst, arith}
 use Rattle.context.specs.Contexts.{Context, IsEnding, IsOn}
 use Rattle.context.proofs.Keeping.{in_run, has_room, is_given, gained, ending_in, makes_end, steps_end, steps_from, on_run}
 use Rattle.context.proofs.context.HartContext.make_end.Goals as goal
@@ -45,7 +45,7 @@ returns-clause-one g c =
     let gains = gained _ _ _ _ _ _ _ c.note-number.ensures.noted c.hart.ensures c.push_end.ensures in
     steps_from _ _ _ _ _ _ c.self.view_is
     (steps_end _ _ _ _ _ c.finish_in_place-part.new.progress _ _ _ c.finish_in_place-part.result _ _ _ c.self.invariant of ending gains
-    c.note-number.ensures.order c.layout_of-layout.ensures c.finish_in_place-part.ensures.ends (omega (arith, some)))
+    c.note-number.ensures.history c.layout_of-layout.ensures c.finish_in_place-part.ensures.ends (omega (arith, some)))
 
 pub returns-clause-on : goal.returns-clause-on
 returns-clause-on g c =

@@ -1,5 +1,5 @@
 -- A handover goes to the engine of what the hart wants, and none stands before it.
-use Rattle.std.proofs.Common.{◌≡◌, ◌≢◌, refl, sym, subst}
+use Rattle.std.proofs.Common.{◌≢◌, sym, subst}
 use Rattle.context.specs.Contexts.{Context, IsWantedIn, IsOn}
 use Rattle.context.proofs.Keeping.{has_room, is_given, gained, makes_handover, on_run}
 use Rattle.context.proofs.context.HartContext.move_to.Goals as goal

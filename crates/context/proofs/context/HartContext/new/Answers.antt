@@ -1,5 +1,5 @@
 -- A hart at its start, with an empty log.
-use Rattle.std.proofs.Common.{◌≡◌, sym, subst}
+use Rattle.std.proofs.Common.{sym, subst}
 use Rattle.context.specs.Contexts.{Context, IsContext}
 use Rattle.context.proofs.Starting.{begins, begins_on, new_is}
 use Rattle.context.proofs.context.HartContext.new.Goals as goal

@@ -1,5 +1,5 @@
 -- A parked hart makes its pulse, or has looked.
-use Rattle.std.proofs.Common.{◌≡◌, true, false, Some, refl, sym, subst}
+use Rattle.std.proofs.Common.{false, refl, sym, subst}
 use Rattle.flex_base.specs.declared.access.Access.TheVariants as acc
 use Rattle.context.specs.declared.wants.Wants.TheVariants as wants
 use Rattle.context.specs.Contexts.{Context, IsWanting, IsOn}
@@ -32,8 +32,7 @@ give-requires g c =
     let On : Context → Type 0 = λ k. IsOn (g.B.Bus.run c.args.bus.now) k in
     let Parked : Context → Type 0 = λ k. IsWanting k wants.Parked in
     let of = (subst On (sym c.self.view_is) c.requires.on).setup in
-    let parked = subst Parked (sym c.self.view_is) c.requires.parked in
-    (
+    let parked = subst Parked (sym c.self.view_is) c.requires.parked in (
       _,
       _,
       acc.Pulse false,
@@ -60,7 +59,7 @@ invariant_of-self g c =
 pub returns-in-Some-clause-one : goal.returns-in-Some-clause-one
 returns-in-Some-clause-one g c =
     let gains = gained _ _ _ _ _ _ _ c.in-Some.ensures.woken c.hart.ensures c.push_access.ensures in
-    is_woken _ _ _ _ c.give.new.progress _ _ c.in-Some.reply _ _ c.self.view_is c.in-Some.ensures.form c.in-Some.ensures.value gains c.in-Some.ensures.order
+    is_woken _ _ _ _ _ c.give.new.progress _ _ c.in-Some.reply _ _ c.self.view_is c.in-Some.ensures.form c.in-Some.ensures.value gains c.in-Some.ensures.history
 
 pub returns-in-Some-clause-on : goal.returns-in-Some-clause-on
 returns-in-Some-clause-on g c =
