@@ -8,3 +8,7 @@ pub mod Flat
 pub mod Serving
 pub mod Waking
 pub mod Ending
+pub mod Events
+pub mod Settling
+pub mod Finishing
+pub mod Room

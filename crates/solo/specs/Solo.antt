@@ -1,11 +1,10 @@
 -- What contracts see of a solo machine.
-use Rattle.std.specs.Prelude.{ℕ, List, [], length, slice_index_or}
+use Rattle.std.specs.Prelude.{ℕ, List, length}
 use Rattle.flex_base.specs.Setup.{Setup}
 use Rattle.flex_base.specs.Loaded.{Loaded}
 use Rattle.flex_base.specs.FlatMemory.{Done}
-use Rattle.flex_base.specs.Banks.{accesses_of}
 use Rattle.flex_base.specs.declared.settings.Settings.{Settings}
-use Rattle.access_record.specs.Buses.{events_of}
+use Rattle.access_record.specs.Histories as history
 use Rattle.access_record.specs.Passes.{Enrolment}
 use Rattle.transplant_plan.specs.Split as split
 use Rattle.transplant_plan.specs.Shown.{shown}
@@ -44,12 +43,12 @@ engines_of plan = (shown plan).engines
 
 -- the accesses that this bank of a bus has made; the devices are the last bank
 abbrev pub done_at : Plain → ℕ → List Done
-done_at bus bank = accesses_of (events_of (slice_index_or bus.logs bank []))
+done_at bus bank = history.done_at bus.history bank
 
 -- the least number that it may give next
 abbrev pub least_in : Plain → ℕ
-least_in bus = bus.order
+least_in bus = bus.history.least
 
 -- how many banks it has, with the devices
 abbrev pub bank_count : Plain → ℕ
-bank_count bus = length bus.logs
+bank_count bus = length bus.history.banks

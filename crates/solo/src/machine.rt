@@ -207,8 +207,7 @@ impl SoloMachine {
     fn stop(&self) -> Option<Stop>
         ensures { (setup : Setup) (u : Machine) → IsAt setup u self.now → result ≡ device_stop setup.harts u.devices }
     {
-        // `PlainBus` can't tell it yet.
-        None
+        self.bus.stop()
     }
 
     // A stop stands, and each hart is over or waits, woken or not.
