@@ -52,11 +52,8 @@ module _ (ram banks : ℕ) where
   left_elsewhere : (harts a old : ℕ) (access : Access) (reply : Reply) → IsPlaced harts ram access → bank_of_access banks access ≢ bank_of banks a
       → left_by a old access reply ≡ old
   left_elsewhere harts a old (acc.Write address width value) reply placed apart = put_elsewhere a old address width value (spans_fixed address width placed.0 placed.1) apart
-  left_elsewhere harts a old (acc.Sc address width value) reply placed apart = by (reply.value == 0)
-    where
-      by : (b : Bool) → (if b then put a old address width value else old) ≡ old
-      by true = put_elsewhere a old address width value (spans_atomic address width placed) apart
-      by false = refl
+  left_elsewhere harts a old (acc.Sc address width value) reply placed apart = elim (reply.value == 0) as (λ b. (if b then put a old address width value else old) ≡ old)
+      [ true ↦ put_elsewhere a old address width value (spans_atomic address width placed) apart | false ↦ refl ]
   left_elsewhere harts a old (acc.Amo op address width value) reply placed apart =
       put_elsewhere a old address width (amo_of op reply.value value width) (spans_atomic address width placed) apart
   left_elsewhere harts a old (acc.Fetch address) reply placed apart = refl
@@ -156,13 +153,13 @@ module _ (ram banks : ℕ) where
   abbrev Breaks : ℕ → Bool → ℕ → Option ℕ → Option ℕ → Option ℕ → Type 0
   Breaks bank mine address own whole part = Knows bank own (broken_by mine address whole) part
 
+  some_by : (h g : ℕ) (b : Bool) → (if b then None else Some h) ≡ Some g → Some h ≡ Some g
+  some_by h g true e = absurd cc
+  some_by h g false e = e
+
   broken_some : (mine : Bool) (address g : ℕ) (old : Option ℕ) → broken_by mine address old ≡ Some g → old ≡ Some g
   broken_some mine address g None e = absurd cc
-  broken_some mine address g (Some h) e = by ((reservation_set address == h) && not mine) e
-    where
-      by : (b : Bool) → (if b then None else Some h) ≡ Some g → Some h ≡ Some g
-      by true none = absurd cc
-      by false some = some
+  broken_some mine address g (Some h) e = some_by h g ((reservation_set address == h) && not mine) e
 
   -- a write at the bank
   breaks_here : (bank : ℕ) (mine : Bool) (address : ℕ) (own whole part : Option ℕ) → Knows bank own whole part
@@ -211,11 +208,9 @@ module _ (ram banks : ℕ) where
   knows_here bank true own whole part (acc.Lr address width) reply was = record { is_own = λ g some. some; knows = λ g is in_bank. refl }
   knows_here bank false own whole part (acc.Lr address width) reply was = was
   knows_here bank true own whole part (acc.Sc address width value) reply was = record { is_own = λ g some. some; knows = λ g is in_bank. refl }
-  knows_here bank false own whole part (acc.Sc address width value) reply was = by (reply.value == 0)
-    where
-      by : (b : Bool) → Knows bank own (if b then broken_by false address whole else whole) (if b then broken_by false address part else part)
-      by true = breaks_here bank false address own whole part was
-      by false = was
+  knows_here bank false own whole part (acc.Sc address width value) reply was =
+      elim (reply.value == 0) as (λ b. Knows bank own (if b then broken_by false address whole else whole) (if b then broken_by false address part else part))
+      [ true ↦ breaks_here bank false address own whole part was | false ↦ was ]
   knows_here bank mine own whole part (acc.Write address width value) reply was = knows_own bank _ own _ _ (own_none mine own) (breaks_here bank mine address own whole part was)
   knows_here bank mine own whole part (acc.Amo op address width value) reply was = knows_own bank _ own _ _ (own_none mine own) (breaks_here bank mine address own whole part was)
   knows_here bank mine own whole part (acc.Fetch address) reply was = knows_own bank _ own _ _ (own_none mine own) was
@@ -239,11 +234,9 @@ module _ (ram banks : ℕ) where
   }
   knows_apart bank false own whole part (acc.Lr address width) reply apart was = was
   knows_apart bank true own whole part (acc.Sc address width value) reply apart was = record { is_own = λ g some. some; knows = λ g is in_bank. absurd cc }
-  knows_apart bank false own whole part (acc.Sc address width value) reply apart was = by (reply.value == 0)
-    where
-      by : (b : Bool) → Knows bank own (if b then broken_by false address whole else whole) part
-      by true = breaks_apart bank false address own whole part apart was
-      by false = was
+  knows_apart bank false own whole part (acc.Sc address width value) reply apart was =
+      elim (reply.value == 0) as (λ b. Knows bank own (if b then broken_by false address whole else whole) part)
+      [ true ↦ breaks_apart bank false address own whole part apart was | false ↦ was ]
   knows_apart bank mine own whole part (acc.Write address width value) reply apart was = knows_own bank _ own _ _ (own_none mine own) (breaks_apart bank mine address own whole part apart was)
   knows_apart bank mine own whole part (acc.Amo op address width value) reply apart was = knows_own bank _ own _ _ (own_none mine own) (breaks_apart bank mine address own whole part apart was)
   knows_apart bank mine own whole part (acc.Fetch address) reply apart was = knows_own bank _ own _ _ (own_none mine own) was

@@ -92,7 +92,7 @@ does_by : (w : Want) (class : Class) (happened : What) → IsOfClass w class →
 does_by (Asks a) class (what.Acc access reply) of plain may =
     let same : a ≡ access = some_same a access may in
     (Accesses access reply refl (ap Asks same), ap class_of_access (sym same) ∙ of)
-does_by (Asks a) class (what.End part) of plain may = absurd (let no = may.1 in cc)
+does_by (Asks a) class (what.End part) of plain may = absurd (let ends = may.1 in cc)
 does_by (Asks a) class (what.Handover to) of plain may = absurd cc
 does_by (Ends p after) class (what.Acc access reply) of plain may = absurd cc
 does_by (Ends p after) class (what.End part) of plain may =

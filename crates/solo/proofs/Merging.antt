@@ -11,11 +11,14 @@ use Rattle.solo.proofs.Rising.{rises_few}
 
 -- Lists.
 
+abbrev no_events : List Event
+no_events = []
+
 drops : (p : Event → Bool) (e : Event) (events : List Event) → p e ≡ false → filter p (e ∷ events) ≡ filter p events
-drops p e events no = ap (λ b. if b then e ∷ filter p events else filter p events) no
+drops p e events isnt = ap (λ b. if b then e ∷ filter p events else filter p events) isnt
 
 takes : (p : Event → Bool) (e : Event) (events : List Event) → p e ≡ true → filter p (e ∷ events) ≡ e ∷ filter p events
-takes p e events yes = ap (λ b. if b then e ∷ filter p events else filter p events) yes
+takes p e events it_is = ap (λ b. if b then e ∷ filter p events else filter p events) it_is
 
 filter_append : (p : Event → Bool) (xs ys : List Event) → filter p (xs ++ ys) ≡ filter p xs ++ filter p ys
 filter_append p [] ys = refl
@@ -86,13 +89,13 @@ of_hart-none h = refl
 
 part_drops : (k : ℕ) (e : Event) (rest : List Event) (b : Bool) → has_number k e ≡ false
     → filter (has_number k) (if b then e ∷ rest else rest) ≡ filter (has_number k) rest
-part_drops k e rest true no = drops (has_number k) e rest no
-part_drops k e rest false no = refl
+part_drops k e rest true isnt = drops (has_number k) e rest isnt
+part_drops k e rest false isnt = refl
 
 part_takes : (k : ℕ) (e : Event) (rest : List Event) (b : Bool) → has_number k e ≡ true → filter (has_number k) rest ≡ []
     → filter (has_number k) (if b then e ∷ rest else rest) ≡ (if b then e ∷ [] else [])
-part_takes k e rest true yes none = takes (has_number k) e rest yes ∙ ap (λ (es : List Event). e ∷ es) none
-part_takes k e rest false yes none = none
+part_takes k e rest true it_is empty = takes (has_number k) e rest it_is ∙ ap (λ (es : List Event). e ∷ es) empty
+part_takes k e rest false it_is empty = empty
 
 part_none : (k h low high : ℕ) (events : List Event) → k < low → Rises low high events → filter (has_number k) (of_hart h events) ≡ []
 part_none k h low high [] below rises = ap (filter (has_number k)) (of_hart-none h)
@@ -121,29 +124,29 @@ one_in e a (suc n) from below = elim (cases_eq e.hart.0 a) [
       ∙ one_in e (a + 1) n (omega (arith, from, other)) (omega (arith, below))
 ]
 
+nothing : (a n : ℕ) → flat_map (λ (h : ℕ). no_events) (range_with_len a n) ≡ []
+nothing a zero = refl
+nothing a (suc n) = nothing (a + 1) n
+
 -- the event of a number stands in one part
 one_part : (k harts low high : ℕ) (events : List Event) → Rises low high events → AreOfHarts harts events
     → flat_map (λ h. filter (has_number k) (of_hart h events)) (range_with_len 0 harts) ≡ filter (has_number k) events
-one_part k harts low high [] rises are = flat_same (λ h. filter (has_number k) (of_hart h [])) (λ h. []) 0 harts (λ h from. ap (filter (has_number k)) (of_hart-none h)) ∙ nothing 0 harts
-  where
-    nothing : (a n : ℕ) → flat_map (λ (h : ℕ). []) (range_with_len a n) ≡ []
-    nothing a zero = refl
-    nothing a (suc n) = nothing (a + 1) n
+one_part k harts low high [] rises are = flat_same (λ h. filter (has_number k) (of_hart h [])) (λ h. no_events) 0 harts (λ h from. ap (filter (has_number k)) (of_hart-none h)) ∙ nothing 0 harts
 one_part k harts low high (e ∷ events) rises are = elim (cases_eq e.number k) [
   | inl same ↦
-      let yes = eq-eqb e.number k same in
+      let it_is = eq-eqb e.number k same in
       let after : k < suc e.number = omega (arith, same) in
       flat_same (λ h. filter (has_number k) (of_hart h (e ∷ events))) (only e) 0 harts (λ h from.
           ap (filter (has_number k)) (of_hart-cons h e events)
-          ∙ part_takes k e (of_hart h events) (e.hart.0 == h) yes (part_none k h (suc e.number) high events after rises.1))
+          ∙ part_takes k e (of_hart h events) (e.hart.0 == h) it_is (part_none k h (suc e.number) high events after rises.1))
       ∙ one_in e 0 harts (omega arith) (omega (arith, are.0))
-      ∙ sym (takes (has_number k) e events yes ∙ ap (λ (es : List Event). e ∷ es) (none_above k (suc e.number) high events after rises.1))
+      ∙ sym (takes (has_number k) e events it_is ∙ ap (λ (es : List Event). e ∷ es) (none_above k (suc e.number) high events after rises.1))
   | inr other ↦
-      let no = ne_eqb e.number k other in
+      let isnt = ne_eqb e.number k other in
       flat_same (λ h. filter (has_number k) (of_hart h (e ∷ events))) (λ h. filter (has_number k) (of_hart h events)) 0 harts (λ h from.
-          ap (filter (has_number k)) (of_hart-cons h e events) ∙ part_drops k e (of_hart h events) (e.hart.0 == h) no)
+          ap (filter (has_number k)) (of_hart-cons h e events) ∙ part_drops k e (of_hart h events) (e.hart.0 == h) isnt)
       ∙ one_part k harts (suc e.number) high events rises.1 are.1
-      ∙ sym (drops (has_number k) e events no)
+      ∙ sym (drops (has_number k) e events isnt)
 ]
 
 -- All together.

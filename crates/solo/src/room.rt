@@ -1,4 +1,4 @@
-ghost use Rattle.std.specs.Prelude.{◌≡◌, ◌<◌, ◌≤◌, ℕ, IfOk, map, reverse, slice_index_or, vec_len, vec_capacity};
+ghost use Rattle.std.specs.Prelude.{◌≡◌, ◌<◌, ◌≤◌, ℕ, IfOk, map, slice_index_or, vec_len, vec_capacity};
 ghost use Rattle.flex_base.specs.declared.settings.Settings.{Settings};
 ghost use Rattle.context.specs.Contexts.{Context, IsContext};
 ghost use Rattle.solo.specs.Room.{are_empty};
@@ -10,7 +10,7 @@ use hart_story::Hart;
 use journal::HartLog;
 use std::alloc::{AllocError, Global};
 
-// The parts of the contexts at the end of a run: the harts and their logs in rising order, and the
+// The parts of the contexts at the end of a run, in rising order: the harts, their logs and their
 // passes.
 pub(crate) struct Parts {
     pub(crate) harts: Vec<Hart>,
@@ -38,7 +38,7 @@ pub(crate) fn take_apart(mut contexts: Vec<HartContext>, mut parts: Parts) -> Pa
     ensures harts { result.harts.items ≡ map (λ (c : Context). c.hart) contexts.items }
     ensures logs { result.logs.items ≡ map (λ (c : Context). c.log) contexts.items }
     ensures contexts { (h : ℕ) (other : Context) → h < vec_len contexts → IsContext (slice_index_or contexts.items h other) }
-    ensures passes { result.passes.items ≡ reverse (map (λ (c : Context). c.pass) contexts.items) }
+    ensures passes { result.passes.items ≡ map (λ (c : Context). c.pass) contexts.items }
 {
     while let Some(context) = contexts.pop() {
         let (hart, pass, log) = context.dissolve();
@@ -49,5 +49,6 @@ pub(crate) fn take_apart(mut contexts: Vec<HartContext>, mut parts: Parts) -> Pa
     contexts.destroy_empty();
     parts.harts.reverse();
     parts.logs.reverse();
+    parts.passes.reverse();
     parts
 }
