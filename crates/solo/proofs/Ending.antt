@@ -78,8 +78,8 @@ sum_parts harts (e ∷ events) are =
     ∙ ap (λ b. length (if b then e ∷ of_hart e.hart.0 events else of_hart e.hart.0 events)) (eq-eqb e.hart.0 e.hart.0 refl)
     ∙ omega arith in
     let more = sum_more (λ h. length (of_hart h (e ∷ events))) (λ h. length (of_hart h events)) harts e.hart.0 are.0 own (λ k other.
-        ap (λ (es : List Event). length es) (of_hart-cons k e events)
-        ∙ ap (λ b. length (if b then e ∷ of_hart k events else of_hart k events)) (ne_eqb e.hart.0 k (λ same. other (sym same)))) in
+    ap (λ (es : List Event). length es) (of_hart-cons k e events)
+    ∙ ap (λ b. length (if b then e ∷ of_hart k events else of_hart k events)) (ne_eqb e.hart.0 k (λ same. other (sym same)))) in
     omega (arith, more, sum_parts harts events are.1)
 
 rises_under : (low high n : ℕ) (events : List Event) → Rises low high events → AreBelow n events → low ≤ n → Rises low n events

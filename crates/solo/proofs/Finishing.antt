@@ -67,7 +67,7 @@ module _ (setup : Setup) (u : Machine) (s : Solo) (at : IsAt setup u s) where
         let Below : List Event → Type 0 = λ es. AreBelow n es in
         subst Below (log_part n h any within_h) (ascends_below 0 n (logs_of (passes_of s.contexts) h) (closes.hart_numbers h)) in
         let lengths = sum_same (λ h. length (logs_of (passes_of s.contexts) h)) (λ h. length (of_hart h at.made)) setup.harts (λ h within_h.
-            sym (length-map (logs_of (passes_of s.contexts) h) (λ (e : LogEntry). e.event)) ∙ ap (λ (es : List Event). length es) (log_part n h any within_h)) in
+        sym (length-map (logs_of (passes_of s.contexts) h) (λ (e : LogEntry). e.event)) ∙ ap (λ (es : List Event). length es) (log_part n h any within_h)) in
         let count = closes.count ∙ ap (λ m. sum_below m (λ h. length (logs_of (passes_of s.contexts) h))) harts ∙ lengths in
         numbers_known setup.harts _ n at.made at.are_made.rises at.are_made.harts_are below count
 

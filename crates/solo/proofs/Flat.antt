@@ -100,8 +100,8 @@ module _ (ram banks : ℕ) where
       → read_at image made address width ≡ read_at image (of_bank banks (bank_of banks address) made) address width
   read_part setup image made address width same placed span =
       ap reply_with (value_same (byte image made) (byte image (of_bank banks (bank_of banks address) made)) address address width (λ j below.
-          byte_part setup (address + j) (image_byte image (address + j)) made same placed
-          ∙ ap (λ bank. byte image (of_bank banks bank made) (address + j)) (spans_bank address width j span below)))
+      byte_part setup (address + j) (image_byte image (address + j)) made same placed
+      ∙ ap (λ bank. byte image (of_bank banks bank made) (address + j)) (spans_bank address width j span below)))
 
   -- Reservations.
 
@@ -188,8 +188,8 @@ module _ (ram banks : ℕ) where
     is_own = λ g some. was.is_own g (broken_some mine address g whole some);
     knows = λ g is in_bank.
         spares_by bank mine address g whole apart (λ h some.
-            let same : g ≡ h = some_is g h (sym is ∙ was.is_own h some) in
-            ap (bank_of banks) (sym same) ∙ in_bank)
+        let same : g ≡ h = some_is g h (sym is ∙ was.is_own h some) in
+        ap (bank_of banks) (sym same) ∙ in_bank)
         ∙ was.knows g is in_bank;
   }
 

@@ -46,8 +46,8 @@ flat_logs f a (log ∷ logs) each =
     let first : a + 0 ≡ a = omega arith in
     ap (λ (es : List Event). es ++ all_events logs) (each 0 log (omega arith) ∙ ap f first)
     ∙ ap (λ (es : List Event). f a ++ es) (flat_logs f (a + 1) logs (λ k other below.
-        let next : a + suc k ≡ (a + 1) + k = omega arith in
-        each (suc k) other (omega (arith, below)) ∙ ap f next))
+    let next : a + suc k ≡ (a + 1) + k = omega arith in
+    each (suc k) other (omega (arith, below)) ∙ ap f next))
 
 -- Numbers.
 
@@ -74,8 +74,8 @@ by_number a (e ∷ events) rises =
     (takes (has_number a) e events (eq-eqb e.number a first) ∙ ap (λ (es : List Event). e ∷ es) (none_above a (a + 1) ((a + 1) + n) events (omega arith) rest))
     ∙ ap (λ (es : List Event). e ∷ es)
     (flat_same (λ k. filter (has_number k) (e ∷ events)) (λ k. filter (has_number k) events) (a + 1) n
-        (λ k from. drops (has_number k) e events (ne_eqb e.number k (λ same. omega (arith, same, first, from))))
-        ∙ by_number (a + 1) events rest)
+    (λ k from. drops (has_number k) e events (ne_eqb e.number k (λ same. omega (arith, same, first, from))))
+    ∙ by_number (a + 1) events rest)
 
 -- Harts.
 
@@ -137,14 +137,14 @@ one_part k harts low high (e ∷ events) rises are = elim (cases_eq e.number k) 
       let it_is = eq-eqb e.number k same in
       let after : k < suc e.number = omega (arith, same) in
       flat_same (λ h. filter (has_number k) (of_hart h (e ∷ events))) (only e) 0 harts (λ h from.
-          ap (filter (has_number k)) (of_hart-cons h e events)
-          ∙ part_takes k e (of_hart h events) (e.hart.0 == h) it_is (part_none k h (suc e.number) high events after rises.1))
+      ap (filter (has_number k)) (of_hart-cons h e events)
+      ∙ part_takes k e (of_hart h events) (e.hart.0 == h) it_is (part_none k h (suc e.number) high events after rises.1))
       ∙ one_in e 0 harts (omega arith) (omega (arith, are.0))
       ∙ sym (takes (has_number k) e events it_is ∙ ap (λ (es : List Event). e ∷ es) (none_above k (suc e.number) high events after rises.1))
   | inr other ↦
       let isnt = ne_eqb e.number k other in
       flat_same (λ h. filter (has_number k) (of_hart h (e ∷ events))) (λ h. filter (has_number k) (of_hart h events)) 0 harts (λ h from.
-          ap (filter (has_number k)) (of_hart-cons h e events) ∙ part_drops k e (of_hart h events) (e.hart.0 == h) isnt)
+      ap (filter (has_number k)) (of_hart-cons h e events) ∙ part_drops k e (of_hart h events) (e.hart.0 == h) isnt)
       ∙ one_part k harts (suc e.number) high events rises.1 are.1
       ∙ sym (drops (has_number k) e events isnt)
 ]
@@ -160,8 +160,8 @@ merged_parts harts journal logs rises are count each =
     let zero_on : length journal ≡ 0 + length journal = omega arith in
     let From : ℕ → Type 0 = λ high. Rises 0 high journal in
     let parts = flat_logs (λ h. of_hart h journal) 0 logs (λ k other below.
-        let from : k ≡ 0 + k = omega arith in
-        each k other (omega (arith, below, count)) ∙ ap (λ h. of_hart h journal) from) in
+    let from : k ≡ 0 + k = omega arith in
+    each k other (omega (arith, below, count)) ∙ ap (λ h. of_hart h journal) from) in
     let all : all_events logs ≡ flat_map (λ h. of_hart h journal) (range_with_len 0 harts) =
     parts ∙ ap (λ (m : ℕ). flat_map (λ h. of_hart h journal) (range_with_len 0 m)) count in
     record {
@@ -169,8 +169,8 @@ merged_parts harts journal logs rises are count each =
       each = each;
       merged =
           flat_same (λ k. filter (has_number k) (all_events logs)) (λ k. filter (has_number k) journal) 0 n (λ k from.
-              ap (filter (has_number k)) all
-              ∙ filter_flat (has_number k) (λ h. of_hart h journal) (range_with_len 0 harts)
-              ∙ one_part k harts 0 n journal rises are)
+          ap (filter (has_number k)) all
+          ∙ filter_flat (has_number k) (λ h. of_hart h journal) (range_with_len 0 harts)
+          ∙ one_part k harts 0 n journal rises are)
           ∙ by_number 0 journal (subst From zero_on rises);
     }

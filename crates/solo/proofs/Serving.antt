@@ -142,7 +142,7 @@ module _ (setup : Setup) (u : Machine) (bus : Plain) (h : ℕ) (access : Access)
               others bank (λ same. omega (arith, same, below, last)) ∙ serves.banks bank below ∙ ap (of_bank banks bank) (sym ram_is));
           devices = subst Last (sym run_same)
               (ap (done_at next) (sym last) ∙ own ∙ ap (λ n. done_at bus n ++ d ∷ []) last ∙ ap (λ (ds : List Done). ds ++ d ∷ []) serves.devices
-                  ∙ sym (devices_if false device));
+              ∙ sym (devices_if false device));
           placed = subst Placed (sym ram_is) serves.placed;
         }
 

@@ -103,9 +103,20 @@ impl SoloMachine {
             contexts.destroy_empty();
             return Err(AllocError);
         };
-        let (founder, contexts) =
-            begin_harts(&mut bus, founder, contexts, &mut logs, image.entry, plan, &settings);
-        let parts = Parts { harts, logs, passes };
+        let (founder, contexts) = begin_harts(
+            &mut bus,
+            founder,
+            contexts,
+            &mut logs,
+            image.entry,
+            plan,
+            &settings,
+        );
+        let parts = Parts {
+            harts,
+            logs,
+            passes,
+        };
         Ok(SoloMachine {
             contexts,
             bus,
@@ -361,7 +372,9 @@ fn begin_harts(
     ensures same { bus.new ≡ bus.old }
 {
     for h in 0..settings.harts {
-        let Some(log) = logs.pop() else { unreachable!() };
+        let Some(log) = logs.pop() else {
+            unreachable!()
+        };
         let (next, pass) = bus.enrol(founder, HartId(h));
         founder = next;
         let hart = Hart::start(HartId(h), entry);

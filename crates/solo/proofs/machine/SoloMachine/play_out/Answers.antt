@@ -25,9 +25,14 @@ pub round-requires : goal.round-requires
 round-requires c =
     let first = c.requires.at in
     let setup = first.0 in
-    let u = first.1 in
-    (setup, u, _, _, playing_round setup u c.rounds.counter c.rounds.self
-    (omega (arith, c.rounds-test.true, c.most_events-end.ensures setup u first.2)) (c.rounds.invariant.1 setup u first.2))
+    let u = first.1 in (
+      setup,
+      u,
+      _,
+      _,
+      playing_round setup u c.rounds.counter c.rounds.self
+          (omega (arith, c.rounds-test.true, c.most_events-end.ensures setup u first.2)) (c.rounds.invariant.1 setup u first.2),
+    )
 
 pub rounds-preserved : goal.rounds-preserved
 rounds-preserved c = (

@@ -39,37 +39,37 @@ turn-requires-clause-at c =
 pub loop-h-preserved : goal.loop-h-preserved
 loop-h-preserved c = elim c.if-not-has_ended.branch [
   | then-not-has_ended w ↦ (
-      ap (λ (s : Solo). s.plan) w.self-is ∙ w.turn.ensures.plan ∙ c.loop-h.invariant.0,
-      λ setup u done rest at_first.
-          let h = c.loop-h.h in
-          let so_far = done ++ range_with_len 0 h in
-          let was = (c.loop-h.invariant.1 setup u done rest at_first).1 in
-          let below : h < setup.harts = omega (arith, c.loop-h-test.true, c.count-h-end.ensures, harts_are setup _ _ c.args.self.now at_first.at) in
-          let later = range_with_len (h + 1) (setup.harts - (h + 1)) ++ rest in
-          let playing = playing_as setup u so_far so_far (range_with_len h (setup.harts - h) ++ rest) (h ∷ later) c.loop-h.self refl (ap (λ ns. ns ++ rest) (numbers_more h setup.harts below)) was in
-          let one_more = append_assoc done (range_with_len 0 h) (h ∷ []) ∙ ap (λ ns. done ++ ns) (sym (range_with_len_push h)) in
-          let tells = c.has_ended.ensures setup _ playing.at in (
-            omega (arith, below),
-            rw (w.self-is) (playing_as setup u (so_far ++ h ∷ []) (done ++ range_with_len 0 (h + 1)) later later _ one_more refl
-                (playing_turn setup u so_far later h c.loop-h.self _ playing (sym tells ∙ w.if-not-has_ended.true) (w.turn.ensures.at setup _ playing.at))),
-          ),
-    )
+    ap (λ (s : Solo). s.plan) w.self-is ∙ w.turn.ensures.plan ∙ c.loop-h.invariant.0,
+    λ setup u done rest at_first.
+        let h = c.loop-h.h in
+        let so_far = done ++ range_with_len 0 h in
+        let was = (c.loop-h.invariant.1 setup u done rest at_first).1 in
+        let below : h < setup.harts = omega (arith, c.loop-h-test.true, c.count-h-end.ensures, harts_are setup _ _ c.args.self.now at_first.at) in
+        let later = range_with_len (h + 1) (setup.harts - (h + 1)) ++ rest in
+        let playing = playing_as setup u so_far so_far (range_with_len h (setup.harts - h) ++ rest) (h ∷ later) c.loop-h.self refl (ap (λ ns. ns ++ rest) (numbers_more h setup.harts below)) was in
+        let one_more = append_assoc done (range_with_len 0 h) (h ∷ []) ∙ ap (λ ns. done ++ ns) (sym (range_with_len_push h)) in
+        let tells = c.has_ended.ensures setup _ playing.at in (
+          omega (arith, below),
+          rw (w.self-is) (playing_as setup u (so_far ++ h ∷ []) (done ++ range_with_len 0 (h + 1)) later later _ one_more refl
+              (playing_turn setup u so_far later h c.loop-h.self _ playing (sym tells ∙ w.if-not-has_ended.true) (w.turn.ensures.at setup _ playing.at))),
+        ),
+  )
   | else-not-has_ended w ↦ (
-      ap (λ (s : Solo). s.plan) w.self-is ∙ c.loop-h.invariant.0,
-      λ setup u done rest at_first.
-          let h = c.loop-h.h in
-          let so_far = done ++ range_with_len 0 h in
-          let was = (c.loop-h.invariant.1 setup u done rest at_first).1 in
-          let below : h < setup.harts = omega (arith, c.loop-h-test.true, c.count-h-end.ensures, harts_are setup _ _ c.args.self.now at_first.at) in
-          let later = range_with_len (h + 1) (setup.harts - (h + 1)) ++ rest in
-          let playing = playing_as setup u so_far so_far (range_with_len h (setup.harts - h) ++ rest) (h ∷ later) c.loop-h.self refl (ap (λ ns. ns ++ rest) (numbers_more h setup.harts below)) was in
-          let one_more = append_assoc done (range_with_len 0 h) (h ∷ []) ∙ ap (λ ns. done ++ ns) (sym (range_with_len_push h)) in
-          let tells = c.has_ended.ensures setup _ playing.at in (
-            omega (arith, below),
-            rw (w.self-is) (playing_as setup u (so_far ++ h ∷ []) (done ++ range_with_len 0 (h + 1)) later later _ one_more refl
-                (playing_over setup u so_far later h c.loop-h.self playing (sym tells ∙ w.if-not-has_ended.false))),
-          ),
-    )
+    ap (λ (s : Solo). s.plan) w.self-is ∙ c.loop-h.invariant.0,
+    λ setup u done rest at_first.
+        let h = c.loop-h.h in
+        let so_far = done ++ range_with_len 0 h in
+        let was = (c.loop-h.invariant.1 setup u done rest at_first).1 in
+        let below : h < setup.harts = omega (arith, c.loop-h-test.true, c.count-h-end.ensures, harts_are setup _ _ c.args.self.now at_first.at) in
+        let later = range_with_len (h + 1) (setup.harts - (h + 1)) ++ rest in
+        let playing = playing_as setup u so_far so_far (range_with_len h (setup.harts - h) ++ rest) (h ∷ later) c.loop-h.self refl (ap (λ ns. ns ++ rest) (numbers_more h setup.harts below)) was in
+        let one_more = append_assoc done (range_with_len 0 h) (h ∷ []) ∙ ap (λ ns. done ++ ns) (sym (range_with_len_push h)) in
+        let tells = c.has_ended.ensures setup _ playing.at in (
+          omega (arith, below),
+          rw (w.self-is) (playing_as setup u (so_far ++ h ∷ []) (done ++ range_with_len 0 (h + 1)) later later _ one_more refl
+              (playing_over setup u so_far later h c.loop-h.self playing (sym tells ∙ w.if-not-has_ended.false))),
+        ),
+  )
 ]
 
 pub returns-clause-at : goal.returns-clause-at
