@@ -37,7 +37,7 @@ use Rattle.solo.proofs.Making.{Does, Accesses, Finishes, IsOfClass, does_next, g
 
 -- The history of the bus.
 
-some_history : (a b : History) → Some a ≡ Some b → a ≡ b
+pub some_history : (a b : History) → Some a ≡ Some b → a ≡ b
 some_history a b e = cc
 
 least_after : (run : Run) (old : History) (h : ℕ) (happened : What) (number : ℕ) → (history_after run old h happened number).least ≡ number + 1
@@ -66,7 +66,7 @@ module _ (setup : Setup) (u : Machine) (p : Splitting) (s : Solo) (h : ℕ) (c n
     | inr device ↦ omega (arith, device_last setup u s.bus h access holds.memory device, holds.memory.all, holds.memory.whole)
   ]
 
-  access_made : (access : Access) (reply : Reply) (adds : Adds s.bus.run (Some s.bus.history) (Some bus.history) (what.Acc access reply) c new) → new.engine ≡ c.engine
+  pub access_made : (access : Access) (reply : Reply) (adds : Adds s.bus.run (Some s.bus.history) (Some bus.history) (what.Acc access reply) c new) → new.engine ≡ c.engine
       → next_of setup u h ≡ Asks access → IsPlaced setup.harts setup.ram access → IsReserved u.ram h access
       → IsMadeBy setup u p s h c new bus (what.Acc access reply)
   access_made access reply adds stays asks placed reserved =
@@ -92,7 +92,7 @@ module _ (setup : Setup) (u : Machine) (p : Splitting) (s : Solo) (h : ℕ) (c n
       }
 
   -- an event that is no access leaves the memory
-  own_made : (happened : What) (v : Machine) (to : Engine) (adds : Adds s.bus.run (Some s.bus.history) (Some bus.history) happened c new) → new.engine ≡ to
+  pub own_made : (happened : What) (v : Machine) (to : Engine) (adds : Adds s.bus.run (Some s.bus.history) (Some bus.history) happened c new) → new.engine ≡ to
       → (history_after s.bus.run s.bus.history c.pass.hart.0 happened adds.number).banks ≡ s.bus.history.banks → v.ram ≡ u.ram → v.devices ≡ u.devices → Goes setup u v h happened
       → Grows s.bus.run s.bus.history c.pass.hart.0 happened adds.number (Some bus.history)
       → Holds setup v (grown p h c.engine happened to) (with_hart s h new bus)
@@ -102,7 +102,7 @@ module _ (setup : Setup) (u : Machine) (p : Splitting) (s : Solo) (h : ℕ) (c n
       let least = ap (λ (x : History). x.least) after ∙ least_after s.bus.run s.bus.history c.pass.hart.0 happened adds.number in
       holds_more setup u v p s h c new bus happened adds.bank adds.number to holds below read adds.noted same on_new enters run_same grows.rises least goes
       (serves_own setup u v s.bus bus holds.memory run_same (ap (λ (xs : List (List Done)). length xs) banks) ram devices
-          (λ bank. ap (λ (xs : List (List Done)). get_or xs bank []) banks))
+      (λ bank. ap (λ (xs : List (List Done)). get_or xs bank []) banks))
 
 -- What a context wants, by its class.
 
@@ -141,7 +141,7 @@ module _ (setup : Setup) (u : Machine) (p : Splitting) (s : Solo) (h : ℕ) (c n
       let In : Instruction → Type 0 = λ i. MayDo setup i steps.happened in
       subst In (instruction_read setup u p s holds h c below read) (subst At holds.memory.setup_is steps.may)
 
-  it_does : Does (want_of setup u h) class steps.happened × (class_of_what steps.happened ≡ class)
+  pub it_does : Does (want_of setup u h) class steps.happened × (class_of_what steps.happened ≡ class)
   it_does = does_next setup (instruction_at u h) class steps.happened of_class steps.plain may
 
   in_harts : h < length u.harts
@@ -153,7 +153,7 @@ module _ (setup : Setup) (u : Machine) (p : Splitting) (s : Solo) (h : ℕ) (c n
       let Placed : What → Type 0 = λ x. IsPlacedIn setup x in
       let Made : What → Type 0 = λ x. IsMadeBy setup u p s h c new bus x in
       subst Made (sym is) (access_made setup u p s h c new bus holds below read number_is same on run_same access reply (subst Added is steps.adds) steps.engine
-          (next_asks setup u h access asks) (subst Placed is placed) (reserved_asked setup u h access holds.reached below asks))
+      (next_asks setup u h access asks) (subst Placed is placed) (reserved_asked setup u h access holds.reached below asks))
   by_does (Finishes part after is ends) =
       let Added : What → Type 0 = λ x. Adds s.bus.run (Some s.bus.history) (Some bus.history) x c new in
       let Made : What → Type 0 = λ x. IsMadeBy setup u p s h c new bus x in

@@ -12,3 +12,4 @@ pub mod Events
 pub mod Settling
 pub mod Finishing
 pub mod Room
+pub mod Wakes
