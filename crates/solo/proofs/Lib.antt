@@ -13,3 +13,4 @@ pub mod Settling
 pub mod Finishing
 pub mod Room
 pub mod Wakes
+pub mod Trying
