@@ -1,6 +1,7 @@
 -- What a bus asks of a hart's pass, and what it does to it.
-use Rattle.std.specs.Prelude.{◌≡◌, ℕ, ◌+◌, ◌-◌, ◌<◌, ◌≤◌, Bool, true, List, [], ◌∷◌, ◌++◌, map, length, Option, None, Some}
+use Rattle.std.specs.Prelude.{◌≡◌, ℕ, ◌-◌, ◌<◌, Bool, true, List, [], ◌∷◌, ◌++◌, map, length, Option, Some}
 use Rattle.flex_base.specs.Setup.{Setup}
+use Rattle.flex_base.specs.FlatMemory.{Done}
 use Rattle.flex_base.specs.StoryTree.{Asks}
 use Rattle.flex_base.specs.Unsplit.{Instruction}
 use Rattle.flex_base.specs.Devices.{hart_at, is_unwoken, is_transmit, devices, sent_bytes}
@@ -86,12 +87,6 @@ pub record Extends (old new : PassOfHart) (entry : Entry) (bank : Option ℕ) (n
   pub log : new.log ≡ old.log ++ log_entry entry old.hart bank number ∷ []
   pub above : Ascends 0 number old.log
 
--- what a bus tells of the numbers before and after it gives one: a bus of one thread gives numbers that rise, and one
--- that threads share says nothing of them
-abbrev pub InOrder : Option ℕ → ℕ → Option ℕ → Type 0
-InOrder None number after = after ≡ None
-InOrder (Some least) number after = (least ≤ number) × (after ≡ Some (number + 1))
-
 -- the pass of the same hart and record, with the same log, which has looked at the devices
 pub record HasLooked (old new : PassOfHart) : Type 0 where
   pub id : new.id ≡ old.id
@@ -99,6 +94,10 @@ pub record HasLooked (old new : PassOfHart) : Type 0 where
   pub log : new.log ≡ old.log
   pub looks : old.looks < new.looks
 
--- in the devices' log that the pass looked at last, its hart waits and isn't woken
+-- after these accesses of the devices the hart waits and isn't woken
+abbrev pub is_unwoken_after : Run → List Done → ℕ → Bool
+is_unwoken_after run made hart = is_unwoken (hart_at (devices run.setup.harts made) hart).standing
+
+-- so it is in the devices' log that the pass looked at last
 abbrev pub waits_unwoken : Run → PassOfHart → Bool
-waits_unwoken run pass = is_unwoken (hart_at (devices run.setup.harts (accesses_of (events_of pass.looked))) pass.hart.0).standing
+waits_unwoken run pass = is_unwoken_after run (accesses_of (events_of pass.looked)) pass.hart.0

@@ -4,3 +4,4 @@ pub mod Passes
 pub mod Steps
 pub mod Gathered
 pub mod Buses
+pub mod Histories

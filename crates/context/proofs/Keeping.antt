@@ -38,7 +38,8 @@ use Rattle.journal.specs.Log.{Log}
 use Rattle.access_record.specs.declared.entry.LogEntry.{LogEntry}
 use Rattle.access_record.specs.Logs.{log_entry}
 use Rattle.access_record.specs.Passes.{PassOfHart}
-use Rattle.access_record.specs.Buses.{Run, NamesPlace, IsGiven, events_of, waits, engine_of, Extends, InOrder, HasLooked}
+use Rattle.access_record.specs.Buses.{Run, NamesPlace, IsGiven, events_of, waits, engine_of, Extends, HasLooked}
+use Rattle.access_record.specs.Histories.{History, InHistory}
 use Rattle.access_record.proofs.Extending.{events_of-push, extends-places}
 use Rattle.context.specs.declared.wants.Wants.{Wants}
 use Rattle.context.specs.declared.wants.Wants.TheVariants as wants
@@ -374,26 +375,23 @@ makes_access c progress pass log access reply bank number setup layout context o
     (λ one its parked. let not_so = sym (asking.asks one its) ∙ parked in absurd cc)
     (asked_told c pass log access reply bank number context gains awake)
 
-pub steps_access : (setup : Setup) (before after : Option ℕ) (c : Context) (progress : Progress) (pass : PassOfHart) (log : Log) (access : Access) (reply : Reply)
-    (bank : Option ℕ) (number : ℕ) → IsRunOf c.entry c.settings setup → IsAsking c access → HasForm access reply
-    → Gains c pass log (what.Acc access reply) bank number → InOrder before number after
-    → Steps setup before after c (next c c.hart progress pass log c.engine c.left)
-steps_access setup before after c progress pass log access reply bank number of asking form gains order = record {
+pub steps_access : (run : Run) (before after : Option History) (c : Context) (progress : Progress) (pass : PassOfHart) (log : Log) (access : Access) (reply : Reply)
+    (bank : Option ℕ) (number : ℕ) → IsRunOf c.entry c.settings run.setup → IsAsking c access → HasForm access reply
+    → Gains c pass log (what.Acc access reply) bank number → InHistory run before c.pass.hart.0 (what.Acc access reply) number after
+    → Steps run before after c (next c c.hart progress pass log c.engine c.left)
+steps_access run before after c progress pass log access reply bank number of asking form gains history = record {
   happened = what.Acc access reply;
-  adds = record { bank = bank; number = number; noted = gains.extends; order = order };
-  may = (ap next_access (asking.asks setup of), form);
+  adds = record { bank = bank; number = number; noted = gains.extends; history = history };
+  may = (ap next_access (asking.asks run.setup of), form);
   plain = refl;
   engine = refl;
   left = omega arith;
 }
 
-pub steps_from : (setup : Setup) (before after : Option ℕ) (c k d : Context) → c ≡ k → Steps setup before after c d → Steps setup before after k d
-steps_from setup before after c k d is steps = subst (λ (x : Context). Steps setup before after x d) is steps
+pub steps_from : (run : Run) (before after : Option History) (c k d : Context) → c ≡ k → Steps run before after c d → Steps run before after k d
+steps_from run before after c k d is steps = subst (λ (x : Context). Steps run before after x d) is steps
 
 -- A handover.
-
-pub moves_from : (before after : Option ℕ) (to : Engine) (c k d : Context) → c ≡ k → Moves before after to c d → Moves before after to k d
-moves_from before after to c k d is moved = subst (λ (x : Context). Moves before after to x d) is moved
 
 pub makes_handover : (c : Context) (pass : PassOfHart) (log : Log) (to : Engine) (bank : Option ℕ) (number : ℕ) (setup : Setup) → IsContext c
     → IsRunOf c.entry c.settings setup → IsWantedIn c to → to ≢ c.engine → Gains c pass log (what.Handover to) bank number
@@ -452,17 +450,18 @@ makes_end c hart progress pass log left part bank number setup layout context of
     after_end c hart progress pass log left part bank number context (has_room c setup context of) gains (ap (plan_of c) class_is ∙ ending.class_is) awake less count
     (λ one its. has_ended c hart progress part one layout context ending same so count begins its)
 
-pub steps_end : (setup : Setup) (before after : Option ℕ) (c : Context) (hart : Hart) (progress : Progress) (pass : PassOfHart) (log : Log) (left : ℕ)
-    (part : EndPart) (bank : Option ℕ) (number : ℕ) (layout : Layout) → IsContext c → IsRunOf c.entry c.settings setup → IsEnding c
-    → Gains c pass log (what.End part) bank number → InOrder before number after
+pub steps_end : (run : Run) (before after : Option History) (c : Context) (hart : Hart) (progress : Progress) (pass : PassOfHart) (log : Log) (left : ℕ)
+    (part : EndPart) (bank : Option ℕ) (number : ℕ) (layout : Layout) → IsContext c → IsRunOf c.entry c.settings run.setup → IsEnding c
+    → Gains c pass log (what.End part) bank number → InHistory run before c.pass.hart.0 (what.End part) number after
     → layout ≡ layout_of c.settings → EndsSo c progress layout part hart → left + 1 ≡ c.left
-    → Steps setup before after c (next c hart progress pass log c.engine left)
-steps_end setup before after c hart progress pass log left part bank number layout context of ending gains order same so less =
+    → Steps run before after c (next c hart progress pass log c.engine left)
+steps_end run before after c hart progress pass log left part bank number layout context of ending gains history same so less =
+    let setup = run.setup in
     let end = ending_in c setup ending of in
     let made = so setup (instruction_at setup c) end.part end.after (in_run c layout setup context same of) end.ends in
     record {
       happened = what.End part;
-      adds = record { bank = bank; number = number; noted = gains.extends; order = order };
+      adds = record { bank = bank; number = number; noted = gains.extends; history = history };
       may = (made.after, made.ends);
       plain = refl;
       engine = refl;
@@ -483,19 +482,20 @@ makes_pulse c progress pass log reply bank number setup layout context of parked
     subst In same (on one (instruction_at one c) (acc.Pulse false) (in_run c layout one context same its) (parked_asked _ (is_parked c one its parked))))
     (λ one its. ap next_access (is_parked c one its parked)) (λ one its is. value) (λ w. refl)
 
-pub is_woken : (before after : Option ℕ) (c k : Context) (progress : Progress) (pass : PassOfHart) (log : Log) (reply : Reply) (bank : Option ℕ) (number : ℕ)
-    → c ≡ k → HasForm (acc.Pulse false) reply → reply.value ≡ 0 → Gains c pass log (what.Acc (acc.Pulse false) reply) bank number → InOrder before number after
-    → IsWoken before after k (next c c.hart progress pass log c.engine c.left)
-is_woken before after c k progress pass log reply bank number is form value gains order =
-    let woken : IsWoken before after c (next c c.hart progress pass log c.engine c.left) = record {
+pub is_woken : (run : Run) (before after : Option History) (c k : Context) (progress : Progress) (pass : PassOfHart) (log : Log) (reply : Reply)
+    (bank : Option ℕ) (number : ℕ) → c ≡ k → HasForm (acc.Pulse false) reply → reply.value ≡ 0
+    → Gains c pass log (what.Acc (acc.Pulse false) reply) bank number → InHistory run before c.pass.hart.0 (what.Acc (acc.Pulse false) reply) number after
+    → IsWoken run before after k (next c c.hart progress pass log c.engine c.left)
+is_woken run before after c k progress pass log reply bank number is form value gains history =
+    let woken : IsWoken run before after c (next c c.hart progress pass log c.engine c.left) = record {
       reply = reply;
-      adds = record { bank = bank; number = number; noted = gains.extends; order = order };
+      adds = record { bank = bank; number = number; noted = gains.extends; history = history };
       form = form;
       value = value;
       engine = refl;
       left = refl;
     } in
-    subst (λ (x : Context). IsWoken before after x (next c c.hart progress pass log c.engine c.left)) is woken
+    subst (λ (x : Context). IsWoken run before after x (next c c.hart progress pass log c.engine c.left)) is woken
 
 -- a look changes nothing that a context keeps
 pub looks_keep : (c : Context) (pass : PassOfHart) → IsContext c → HasLooked c.pass pass → IsContext (next c c.hart c.progress pass c.log c.engine c.left)

@@ -25,7 +25,8 @@ use Rattle.hart_story.specs.declared.hart.Hart.{Hart}
 use Rattle.hart_story.specs.declared.progress.Progress.{Progress}
 use Rattle.journal.specs.Log.{Log}
 use Rattle.access_record.specs.Passes.{PassOfHart}
-use Rattle.access_record.specs.Buses.{Run, NamePlaces, events_of, waits, engine_of, waits_unwoken, Extends, InOrder, HasLooked}
+use Rattle.access_record.specs.Buses.{Run, NamePlaces, events_of, waits, engine_of, waits_unwoken, Extends, HasLooked}
+use Rattle.access_record.specs.Histories.{History, InHistory, IsUnwokenIn}
 use Rattle.transplant_plan.specs.Planning.{engine_at}
 use Rattle.transplant_plan.specs.declared.plan.Plan.{Plan}
 use Rattle.context.specs.declared.wants.Wants.{Wants}
@@ -139,50 +140,53 @@ pub record IsSame (old new : Context) : Type 0 where
   pub plan : new.plan ≡ old.plan
   pub settings : new.settings ≡ old.settings
 
--- exactly one event more, of the engine that the context was in, with the number that the bus drew
-pub record Adds (before after : Option ℕ) (happened : What) (old new : Context) : Type 0 where
+-- exactly one event more, of the engine that the context was in, with the number that the bus drew; where the bus has a
+-- history, the event is the next one in it, and the reply to an access is that of its bank
+pub record Adds (run : Run) (before after : Option History) (happened : What) (old new : Context) : Type 0 where
   pub bank : Option ℕ
   pub number : ℕ
   pub noted : Extends old.pass new.pass (record { engine = old.engine; what = happened }) bank number
-  pub order : InOrder before number after
+  pub history : InHistory run before old.pass.hart.0 happened number after
 
 -- how many ends that is
 abbrev pub ends_by : What → ℕ
 ends_by (what.End part) = 1
 ends_by other = 0
 
--- the next event of the hart's story was made, whatever the reply to it; an end lowers the ends of the round by one
-pub record Steps (setup : Setup) (before after : Option ℕ) (old new : Context) : Type 0 where
+-- the next event of the hart's story was made; an end lowers the ends of the round by one
+pub record Steps (run : Run) (before after : Option History) (old new : Context) : Type 0 where
   pub happened : What
-  pub adds : Adds before after happened old new
-  pub may : MayDo setup (instruction_at setup old) happened
+  pub adds : Adds run before after happened old new
+  pub may : MayDo run.setup (instruction_at run.setup old) happened
   pub plain : is_handover happened ≡ false
   pub engine : new.engine ≡ old.engine
   pub left : new.left + ends_by happened ≡ old.left
 
 -- it was handed over, and nothing else happened
-pub record Moves (before after : Option ℕ) (to : Engine) (old new : Context) : Type 0 where
-  pub adds : Adds before after (what.Handover to) old new
+pub record Moves (run : Run) (before after : Option History) (to : Engine) (old new : Context) : Type 0 where
+  pub adds : Adds run before after (what.Handover to) old new
   pub engine : new.engine ≡ to
   pub left : new.left ≡ old.left
 
 -- a parked hart made its pulse, by which it is woken
-pub record IsWoken (before after : Option ℕ) (old new : Context) : Type 0 where
+pub record IsWoken (run : Run) (before after : Option History) (old new : Context) : Type 0 where
   pub reply : Reply
-  pub adds : Adds before after (what.Acc (acc.Pulse false) reply) old new
+  pub adds : Adds run before after (what.Acc (acc.Pulse false) reply) old new
   pub form : HasForm (acc.Pulse false) reply
   pub value : reply.value ≡ 0
   pub engine : new.engine ≡ old.engine
   pub left : new.left ≡ old.left
 
--- it has looked at the devices, in whose log it waits unwoken; nothing else happened
-pub record IsUnwoken (run : Run) (before after : Option ℕ) (old new : Context) : Type 0 where
+-- it has looked at the devices, in whose log it waits unwoken, and so it does in the history of a bus that has one; nothing
+-- else happened
+pub record IsUnwoken (run : Run) (before after : Option History) (old new : Context) : Type 0 where
   pub looked : HasLooked old.pass new.pass
   pub unwoken : waits_unwoken run new.pass ≡ true
+  pub in_history : IsUnwokenIn run before old.pass.hart.0
   pub same : new ≡ record old { pass = new.pass }
-  pub order : after ≡ before
+  pub stays : after ≡ before
 
 -- whether it was woken
-abbrev pub HasTried : Run → Option ℕ → Option ℕ → Context → Context → Bool → Type 0
-HasTried run before after old new true = IsWoken before after old new
+abbrev pub HasTried : Run → Option History → Option History → Context → Context → Bool → Type 0
+HasTried run before after old new true = IsWoken run before after old new
 HasTried run before after old new false = IsUnwoken run before after old new

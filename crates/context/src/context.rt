@@ -152,7 +152,7 @@ impl HartContext {
         requires on { IsOn (B.run bus.old) self }
         requires wanted { IsWantedIn self self.engine }
         requires left { 0 < self.left }
-        ensures one { Steps (B.run bus.old).setup (B.order bus.old) (B.order bus.new) self result }
+        ensures one { Steps (B.run bus.old) (B.history bus.old) (B.history bus.new) self result }
         ensures same { IsSame self result }
         ensures on { IsOn (B.run bus.old) result }
         ensures bus { B.run bus.new ≡ B.run bus.old }
@@ -167,7 +167,7 @@ impl HartContext {
     pub fn try_wake<B: Bus>(self, bus: &mut B) -> (HartContext, bool)
         requires on { IsOn (B.run bus.old) self }
         requires parked { IsWanting self Wants.Parked }
-        ensures one { HasTried (B.run bus.old) (B.order bus.old) (B.order bus.new) self result.0 result.1 }
+        ensures one { HasTried (B.run bus.old) (B.history bus.old) (B.history bus.new) self result.0 result.1 }
         ensures same { IsSame self result.0 }
         ensures on { IsOn (B.run bus.old) result.0 }
         ensures bus { B.run bus.new ≡ B.run bus.old }
@@ -185,7 +185,7 @@ impl HartContext {
         requires wanted { IsWantedIn self to }
         requires other { to ≢ self.engine }
         requires left { 0 < self.left }
-        ensures one { Moves (B.order bus.old) (B.order bus.new) to self result }
+        ensures one { Moves (B.run bus.old) (B.history bus.old) (B.history bus.new) to self result }
         ensures same { IsSame self result }
         ensures on { IsOn (B.run bus.old) result }
         ensures bus { B.run bus.new ≡ B.run bus.old }
@@ -200,7 +200,7 @@ impl HartContext {
         requires on { IsOn (B.run bus.old) self.old }
         requires wanted { IsWantedIn self.old self.old.engine }
         requires left { 0 < self.old.left }
-        ensures one { Steps (B.run bus.old).setup (B.order bus.old) (B.order bus.new) self.old self.new }
+        ensures one { Steps (B.run bus.old) (B.history bus.old) (B.history bus.new) self.old self.new }
         ensures same { IsSame self.old self.new }
         ensures on { IsOn (B.run bus.old) self.new }
         ensures bus { B.run bus.new ≡ B.run bus.old }
@@ -217,7 +217,7 @@ impl HartContext {
     pub fn wake<B: Bus>(&mut self, bus: &mut B) -> bool
         requires on { IsOn (B.run bus.old) self.old }
         requires parked { IsWanting self.old Wants.Parked }
-        ensures one { HasTried (B.run bus.old) (B.order bus.old) (B.order bus.new) self.old self.new result }
+        ensures one { HasTried (B.run bus.old) (B.history bus.old) (B.history bus.new) self.old self.new result }
         ensures same { IsSame self.old self.new }
         ensures on { IsOn (B.run bus.old) self.new }
         ensures bus { B.run bus.new ≡ B.run bus.old }
@@ -247,7 +247,7 @@ impl HartContext {
         requires wanted { IsWantedIn self.old to }
         requires other { to ≢ self.old.engine }
         requires left { 0 < self.old.left }
-        ensures one { Moves (B.order bus.old) (B.order bus.new) to self.old self.new }
+        ensures one { Moves (B.run bus.old) (B.history bus.old) (B.history bus.new) to self.old self.new }
         ensures same { IsSame self.old self.new }
         ensures on { IsOn (B.run bus.old) self.new }
         ensures bus { B.run bus.new ≡ B.run bus.old }
@@ -280,7 +280,7 @@ impl HartContext {
     fn make_access<B: Bus>(&mut self, bus: &mut B, access: Access)
         requires on { IsOn (B.run bus.old) self.old }
         requires asks { IsAsking self.old access }
-        ensures one { Steps (B.run bus.old).setup (B.order bus.old) (B.order bus.new) self.old self.new }
+        ensures one { Steps (B.run bus.old) (B.history bus.old) (B.history bus.new) self.old self.new }
         ensures same { IsSame self.old self.new }
         ensures on { IsOn (B.run bus.old) self.new }
         ensures bus { B.run bus.new ≡ B.run bus.old }
@@ -303,7 +303,7 @@ impl HartContext {
         requires on { IsOn (B.run bus.old) self.old }
         requires ends { IsEnding self.old }
         requires left { 0 < self.old.left }
-        ensures one { Steps (B.run bus.old).setup (B.order bus.old) (B.order bus.new) self.old self.new }
+        ensures one { Steps (B.run bus.old) (B.history bus.old) (B.history bus.new) self.old self.new }
         ensures same { IsSame self.old self.new }
         ensures on { IsOn (B.run bus.old) self.new }
         ensures bus { B.run bus.new ≡ B.run bus.old }

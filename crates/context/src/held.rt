@@ -3,7 +3,9 @@
 ghost use Rattle.std.specs.Prelude.{◌≡◌, true, false, Some, IfNone, IfSome};
 ghost use Rattle.flex_base.specs.Forms.{HasForm, IsPlaced};
 ghost use Rattle.access_record.specs.Logs.{is_access};
-ghost use Rattle.access_record.specs.Buses.{place_in, access_entry, IsGiven, Wants, waits, engine_of, HasByte, Extends, InOrder, HasLooked, waits_unwoken};
+ghost use Rattle.access_record.specs.Buses.{place_in, access_entry, IsGiven, Wants, waits, engine_of, HasByte, Extends, HasLooked, waits_unwoken};
+ghost use Rattle.access_record.specs.Histories.{InHistory, IsUnwokenIn};
+ghost use Rattle.flex_base.specs.declared.event.What.TheVariants as What;
 
 use access_record::{Bus, Entry, Pass};
 use flex_base::{Access, Engine, HartId, Reply};
@@ -63,7 +65,7 @@ impl HeldPass {
         requires awake { waits self.old ≡ false }
         requires console { HasByte (B.run bus.old) self.old acc }
         ensures noted { Extends self.old self.new (access_entry engine acc result.1) (Some (place_in (B.run bus.old) acc)) result.0 }
-        ensures order { InOrder (B.order bus.old) result.0 (B.order bus.new) }
+        ensures history { InHistory (B.run bus.old) (B.history bus.old) self.old.hart.0 (What.Acc acc result.1) result.0 (B.history bus.new) }
         ensures form { HasForm acc result.1 }
         ensures same { B.run bus.new ≡ B.run bus.old }
     {
@@ -83,12 +85,14 @@ impl HeldPass {
         requires engine { engine_of self.old ≡ Some engine }
         ensures woken { IfSome result (λ r. Extends self.old self.new (access_entry engine (Access.Pulse false) r.1)
             (Some (place_in (B.run bus.old) (Access.Pulse false))) r.0) }
-        ensures order { IfSome result (λ r. InOrder (B.order bus.old) r.0 (B.order bus.new)) }
+        ensures history { IfSome result (λ r. InHistory (B.run bus.old) (B.history bus.old) self.old.hart.0
+            (What.Acc (Access.Pulse false) r.1) r.0 (B.history bus.new)) }
         ensures form { IfSome result (λ r. HasForm (Access.Pulse false) r.1) }
         ensures value { IfSome result (λ r. r.1.value ≡ 0) }
         ensures looked { IfNone result (HasLooked self.old self.new) }
         ensures unwoken { IfNone result (waits_unwoken (B.run bus.old) self.new ≡ true) }
-        ensures stays { IfNone result (B.order bus.new ≡ B.order bus.old) }
+        ensures in_history { IfNone result (IsUnwokenIn (B.run bus.old) (B.history bus.old) self.old.hart.0) }
+        ensures stays { IfNone result (B.history bus.new ≡ B.history bus.old) }
         ensures same { B.run bus.new ≡ B.run bus.old }
     {
         let Some(pass) = self.slot.take() else {
@@ -105,7 +109,7 @@ impl HeldPass {
         requires given { IsGiven (B.run bus.old) self.old }
         requires own { is_access entry.what ≡ false }
         ensures noted { Extends self.old self.new entry None result }
-        ensures order { InOrder (B.order bus.old) result (B.order bus.new) }
+        ensures history { InHistory (B.run bus.old) (B.history bus.old) self.old.hart.0 entry.what result (B.history bus.new) }
         ensures same { B.run bus.new ≡ B.run bus.old }
     {
         let Some(pass) = self.slot.take() else {

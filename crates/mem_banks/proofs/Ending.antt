@@ -4,14 +4,16 @@ use Rattle.std.specs.Prelude.{slice_index_or}
 use Rattle.std.specs.List.{All}
 use Rattle.std.proofs.lemmas.List.{get_or-take, length-take-le}
 use Rattle.std.proofs.lemmas.List.Elements.{All-cons}
+use Rattle.std.proofs.Math.ListN.{get_or-map}
 use native.Mathlib.Decide.{ℕ_discrete}
+use Rattle.flex_base.specs.Banks.{accesses_of}
 use Rattle.mem_lines.specs.Bank.{Bank}
 use Rattle.devices.specs.View.{DevicesView}
 use Rattle.access_record.specs.declared.entry.LogEntry.{LogEntry}
 use Rattle.access_record.specs.Rule.{one_if, count_of, occurrences}
 use Rattle.access_record.specs.Passes.{RecordIdentity, PassOfBank, Enrolment, EachHasBankPass, bank_logs_of}
-use Rattle.access_record.specs.Buses.{Run, ram_banks}
-use Rattle.mem_banks.specs.Slots.{pass_of, log_in, seen_in, HasPass}
+use Rattle.access_record.specs.Buses.{Run, ram_banks, events_of}
+use Rattle.mem_banks.specs.Slots.{pass_of, log_in, done_in, seen_in, HasPass}
 use Rattle.mem_banks.specs.Kept.{IsBankOf, AreDevicesOf}
 use Rattle.mem_banks.specs.Plain.{IsPlain, numbers_below}
 use Rattle.mem_banks.specs.End.{Memory, IsMemoryOf, pass_in, passes_down, AreHeld}
@@ -134,6 +136,17 @@ memory-plain run lines d slots memory plain is = subst (IsMemoryOf run) (sym is)
 
     r : ram_banks run + 1 ≡ run.book.limits.banks
     r = plain.run_is.some
+
+-- and what its banks have done
+pub done-down : (run : Run) (lines : List Bank) (d : DevicesView) (slots : List (Option PassOfBank)) (passes : List PassOfBank) → IsPlain run lines d slots
+    → passes ≡ passes_down slots (length slots) → (bank : ℕ) → bank < run.book.limits.banks
+    → accesses_of (events_of (bank_logs_of passes bank)) ≡ slice_index_or (map done_in slots) bank []
+done-down run lines d slots passes plain is bank below =
+    let all : length slots ≤ length slots = omega arith in
+    let within : bank < length slots = let p = plain.all in omega (arith, below, p) in
+    ap (λ (ps : List PassOfBank). accesses_of (events_of (bank_logs_of ps bank))) is
+    ∙ ap (λ (log : List LogEntry). accesses_of (events_of log)) (logs_down run.book slots (plain-passes run lines d slots plain) (length slots) bank all within)
+    ∙ sym (get_or-map done_in slots bank None)
 
 -- the passes of the memory are all that the founder has enrolled
 counts-map : (k : ℕ) (ds : List PassOfBank) → count_of (λ (p : PassOfBank). p.bank) k ds ≡ occurrences k (map (λ (p : PassOfBank). p.bank) ds)

@@ -4,7 +4,7 @@ use Rattle.flex_base.specs.FlatMemory.{Done, is_ram_access, flat}
 use Rattle.flex_base.specs.Unsplit.{with_access}
 use Rattle.flex_base.specs.Place.{UART}
 use Rattle.flex_base.specs.Devices.{is_transmit, sent_bytes, reply_after, devices}
-use Rattle.flex_base.specs.Banks.{bank_of, address_of, accesses_of, IsProper, IsBanked}
+use Rattle.flex_base.specs.Banks.{bank_of, address_of, accesses_of, IsProper, IsAnswered, IsBanked}
 use Rattle.flex_base.specs.declared.access.Access.{Access}
 use Rattle.flex_base.specs.declared.access.Access.TheVariants as acc
 use Rattle.flex_base.specs.declared.access.Reply.{Reply}
@@ -28,7 +28,7 @@ use Rattle.mem_banks.specs.Kept.{IsBankOf, AreDevicesOf, AreOfHarts, MakesAt}
 use Rattle.mem_banks.proofs.Bytes.{entry_of, bytes-push, some_room, fewer-on_bank}
 use Rattle.mem_banks.proofs.Waiting.{waiting-push, waiting-part}
 
-more_accesses : (log : List LogEntry) (hart : HartId) (engine : Engine) (access : Access) (reply : Reply) (bank number : ℕ)
+pub more_accesses : (log : List LogEntry) (hart : HartId) (engine : Engine) (access : Access) (reply : Reply) (bank number : ℕ)
     → accesses_of (events_of (log ++ entry_of hart engine access reply bank number ∷ [])) ≡ with_access (accesses_of (events_of log)) hart.0 access reply
 more_accesses log hart engine access reply bank number =
     let e = entry_of hart engine access reply bank number in
@@ -45,15 +45,26 @@ here_in_lines run book b slot pass access asked =
     ap (λ n. bank_of n (address_of access)) is.banks_are ∙ sym (ap (λ r. if r then bank_of (ram_banks run) (address_of access) else ram_banks run) asked.ram) ∙ asked.here in
     access_here run.setup b access asked.ram (sym is.ram_is) asked.may.placed there
 
+-- its reply is that of the bank
+pub lines_answered : (run : Run) (bank : ℕ) (made : List Done) (hart : ℕ) (access : Access) (reply : Reply)
+    → is_ram_access access ≡ true → place_in run access ≡ bank → reply ≡ flat run.setup.image made hart access
+    → IsAnswered run.setup (ram_banks run) bank made hart access reply
+lines_answered run bank made hart access reply ram here is = record {
+  here = here;
+  reply_is = is ∙ sym (ap (λ r. if r then flat run.setup.image made hart access else reply_after run.setup.harts run.setup.input made hart access) ram);
+  proper = proper_ram access ram;
+}
+  where
+    proper_ram : (a : Access) → is_ram_access a ≡ true → IsProper run.setup.harts made hart a
+    proper_ram (acc.Pulse tick) ram = absurd (cc ram)
+    proper_ram a ram = tt
+
 pub lines_push : (run : Run) (bank : ℕ) (old new : lines.Bank) (log : List LogEntry) (hart : HartId) (engine : Engine) (access : Access) (reply : Reply) (number : ℕ)
-    → IsBankOf run bank old log → is_ram_access access ≡ true → place_in run access ≡ bank
-    → reply ≡ flat run.setup.image (accesses_of (events_of log)) hart.0 access
+    → IsBankOf run bank old log → IsAnswered run.setup (ram_banks run) bank (accesses_of (events_of log)) hart.0 access reply
     → lines.IsReplay run.setup (with_access (accesses_of (events_of log)) hart.0 access reply) new → lines.IsSame old new
     → IsBankOf run bank new (log ++ entry_of hart engine access reply bank number ∷ [])
-lines_push run bank old new log hart engine access reply number kept ram here is replay same =
-    let made = accesses_of (events_of log) in
+lines_push run bank old new log hart engine access reply number kept answered replay same =
     let e = entry_of hart engine access reply bank number in
-    let proper : IsProper run.setup.harts made hart.0 access = proper_ram access ram in
     record {
       is_bank = record {
         ram_is = same.ram_is ∙ kept.is_bank.ram_is;
@@ -62,19 +73,24 @@ lines_push run bank old new log hart engine access reply number kept ram here is
       };
       replay = subst (λ (m : List Done). lines.IsReplay run.setup m new) (sym (more_accesses log hart engine access reply bank number)) replay;
       banked = subst (λ (es : List Event). IsBanked run.setup (ram_banks run) bank es) (sym (events_of-push log e))
-          (banked_push run.setup (ram_banks run) bank (events_of log) e.event kept.banked
-          (record { here = here; reply_is = is ∙ sym (ap (λ r. if r then flat run.setup.image made hart.0 access else reply_after run.setup.harts run.setup.input made hart.0 access) ram); proper = proper }));
+          (banked_push run.setup (ram_banks run) bank (events_of log) e.event kept.banked answered);
     }
-  where
-    proper_ram : (a : Access) → is_ram_access a ≡ true → IsProper run.setup.harts (accesses_of (events_of log)) hart.0 a
-    proper_ram (acc.Pulse tick) ram = absurd (cc ram)
-    proper_ram a ram = tt
 
 -- The devices.
 
 of_harts_push : (harts : ℕ) (log : List LogEntry) (e : LogEntry) → AreOfHarts harts log → e.event.hart.0 < harts → AreOfHarts harts (log ++ e ∷ [])
 of_harts_push harts [] e own below = (below, tt)
 of_harts_push harts (x ∷ log) e own below = (own.0, of_harts_push harts log e own.1 below)
+
+-- a reply of the devices
+pub devices_answered : (run : Run) (made : List Done) (hart : ℕ) (access : Access) (reply : Reply) → is_ram_access access ≡ false
+    → reply ≡ reply_after run.setup.harts run.setup.input made hart access → IsProper run.setup.harts made hart access
+    → IsAnswered run.setup (ram_banks run) (ram_banks run) made hart access reply
+devices_answered run made hart access reply device is proper = record {
+  here = ap (λ r. if r then bank_of (ram_banks run) (address_of access) else ram_banks run) device;
+  reply_is = is ∙ sym (ap (λ r. if r then flat run.setup.image made hart access else reply_after run.setup.harts run.setup.input made hart access) device);
+  proper = proper;
+}
 
 pub devices_push : (run : Run) (old new : devices.DevicesView) (log : List LogEntry) (hart : HartId) (engine : Engine) (access : Access) (reply : Reply) (number : ℕ)
     → AreDevicesOf run old log → hart.0 < run.setup.harts → is_ram_access access ≡ false
@@ -91,12 +107,7 @@ devices_push run old new log hart engine access reply number kept below device i
     record {
       replay = subst (λ (m : List Done). devices.IsReplay run.setup.harts run.setup.input m new) (sym (more_accesses log hart engine access reply dev number)) replay;
       banked = subst (λ (es : List Event). IsBanked run.setup dev dev es) (sym (events_of-push log e))
-          (banked_push run.setup dev dev (events_of log) e.event kept.banked
-          (record {
-            here = ap (λ r. if r then bank_of dev (address_of access) else dev) device;
-            reply_is = is ∙ sym (ap (λ r. if r then flat run.setup.image made hart.0 access else reply_after run.setup.harts run.setup.input made hart.0 access) device);
-            proper = proper;
-          }));
+          (banked_push run.setup dev dev (events_of log) e.event kept.banked (devices_answered run made hart.0 access reply device is proper));
       harts = of_harts_push run.setup.harts log e kept.harts below;
       bytes = bytes-push run.setup.budget log hart engine access reply dev number kept.bytes room;
       waiting = waiting-push run.setup.harts run.setup.input log hart engine access reply dev number kept.waiting is;

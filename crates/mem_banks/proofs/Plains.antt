@@ -23,11 +23,11 @@ use Rattle.mem_lines.specs.Bank.{Bank, is_bank_count, IsBank, IsReplay}
 use Rattle.devices.specs.View.{DevicesView, room_for}
 use Rattle.devices.specs.View as devices
 use Rattle.access_record.specs.Rule.{one_if, occurrences}
-use Rattle.access_record.specs.Passes.{RecordIdentity, PassOfBank}
+use Rattle.access_record.specs.Passes.{RecordIdentity, PassOfHart, PassOfBank}
 use Rattle.access_record.specs.Buses.{Run, ram_banks, place_in, events_of, bytes_sent}
 use Rattle.access_record.specs.declared.entry.LogEntry.{LogEntry}
 use Rattle.mem_banks.specs.Slots.{pass_of, log_in, seen_in, HasPass}
-use Rattle.mem_banks.specs.Kept.{IsBankOf, IsBankAt, AreDevicesOf, AreDevicesAt}
+use Rattle.mem_banks.specs.Kept.{IsBankOf, IsBankAt, AreDevicesOf, AreDevicesAt, MayMake, MakesAt}
 use Rattle.mem_banks.proofs.Bytes.{of_hart-none}
 use Rattle.mem_banks.specs.Plain.{IsPlain, numbers_below, new_slots, IsOfImage, AreMade}
 
@@ -95,6 +95,24 @@ plain-devices run lines old new slots slot plain at = record {
       let within : length lines < length slots = omega (arith, p, q, r) in
       subst (AreDevicesAt run new) (sym (get_or-set_same slots (length lines) slot other within)) at;
 }
+
+-- What an access of a bank asks for.
+
+pub makes_at : (run now : Run) (lines : List Bank) (d : DevicesView) (slots : List (Option PassOfBank)) (k : ℕ) (b : Bank) (slot : Option PassOfBank)
+    (pass : PassOfHart) (access : Access) → IsPlain run lines d slots → run ≡ now → k < length lines → b ≡ slice_index_or lines k b
+    → slot ≡ slice_index_or slots k slot → MayMake now pass access → is_ram_access access ≡ true → place_in now access ≡ k
+    → MakesAt run run.book b slot pass access
+makes_at run now lines d slots k b slot pass access plain same below line_at slot_at may ram here =
+    let at = subst (λ x. IsBankAt run k x slot) (sym line_at) (subst (λ x. IsBankAt run k (slice_index_or lines k b) x) (sym slot_at) (plain.banks k b slot below)) in
+    let bank_is : b.bank ≡ k = at.lines.is_bank.bank_is in
+    record {
+      book_is = refl;
+      run_is = plain.run_is;
+      kept = subst (λ n. IsBankAt run n b slot) (sym bank_is) at;
+      may = subst (λ (r : Run). MayMake r pass access) (sym same) may;
+      ram = ram;
+      here = ap (λ (r : Run). place_in r access) same ∙ here ∙ sym bank_is;
+    }
 
 -- How it begins.
 

@@ -15,8 +15,12 @@ use Rattle.mem_banks.proofs.Ending.{plain-passes}
 
 module _ (run : Run) (lines : List Bank) (d : DevicesView) (slots : List (Option PassOfBank)) (plain : IsPlain run lines d slots) where
   -- each bank of RAM has a place of its own for its pass
-  within : (k : ℕ) → k < ram_banks run → k < length slots
+  pub within : (k : ℕ) → k < ram_banks run → k < length slots
   within k below = let p = plain.all in let r = plain.run_is.some in omega (arith, p, r, below)
+
+  -- and so have the devices
+  pub last_within : length lines < length slots
+  last_within = let p = plain.all in let q = plain.counted in let r = plain.run_is.some in omega (arith, p, q, r)
 
   line_within : (k : ℕ) → k < ram_banks run → k < length lines
   line_within k below = let q = plain.counted in omega (arith, q, below)

@@ -6,21 +6,19 @@ use Rattle.flex_base.specs.Loaded.{Loaded}
 use Rattle.flex_base.specs.declared.settings.Settings.{Settings}
 use Rattle.mem_lines.specs.Bank.{Bank, IsBank, IsReplay}
 use Rattle.devices.specs.View.{DevicesView}
-use Rattle.access_record.specs.declared.entry.LogEntry.{LogEntry}
 use Rattle.access_record.specs.Passes.{RecordIdentity, PassOfBank}
 use Rattle.access_record.specs.Buses.{Run, ram_banks}
-use Rattle.mem_banks.specs.Slots.{pass_of, log_in, seen_in}
+use Rattle.access_record.specs.Histories.{History}
+use Rattle.mem_banks.specs.Slots.{pass_of, done_in, seen_in}
 use Rattle.mem_banks.specs.Kept.{IsRun, IsBankAt, AreDevicesAt}
 
--- the run, the lines of each bank, the devices, and the logs of the banks and, last, of the devices; which bank has seen all
--- numbers so far, and the least one that may come next
+-- the run, the lines of each bank, and the devices; which bank has seen all numbers so far; and what was done
 pub record Plain : Type 0 where
   pub run : Run
   pub lines : List Bank
   pub devices : DevicesView
-  pub logs : List (List LogEntry)
   pub newest : ℕ
-  pub order : ℕ
+  pub history : History
 
 -- the least number that may come after this last one
 abbrev pub next_number : Option ℕ → ℕ
@@ -32,9 +30,8 @@ plain_of run lines d slots newest latest = record {
   run = run;
   lines = lines;
   devices = d;
-  logs = map log_in slots;
   newest = newest;
-  order = next_number latest;
+  history = record { least = next_number latest; banks = map done_in slots };
 }
 
 -- the pass at this place, which is that of a bank of RAM, has seen the numbers below this one

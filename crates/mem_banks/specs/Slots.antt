@@ -1,7 +1,10 @@
 -- Where the pass of a bank lies.
 use Rattle.std.specs.Prelude.{◌≡◌, ℕ, List, [], Option, None, Some}
+use Rattle.flex_base.specs.FlatMemory.{Done}
+use Rattle.flex_base.specs.Banks.{accesses_of}
 use Rattle.access_record.specs.declared.entry.LogEntry.{LogEntry}
 use Rattle.access_record.specs.Passes.{RecordIdentity, PassOfBank}
+use Rattle.access_record.specs.Buses.{events_of}
 
 abbrev pub pass_of : RecordIdentity → ℕ → List LogEntry → ℕ → PassOfBank
 pass_of book bank log seen = record { id = book.id; bank = bank; log = log; seen = seen }
@@ -18,6 +21,10 @@ bank_in (Some p) = p.bank
 abbrev pub seen_in : Option PassOfBank → ℕ
 seen_in None = 0
 seen_in (Some p) = p.seen
+
+-- the accesses of that log
+abbrev pub done_in : Option PassOfBank → List Done
+done_in slot = accesses_of (events_of (log_in slot))
 
 -- the pass of this bank of the record lies there
 abbrev pub HasPass : RecordIdentity → ℕ → Option PassOfBank → Type 0

@@ -1,4 +1,4 @@
-ghost use Rattle.std.specs.Prelude.{◌≡◌, ℕ, ◌+◌, ◌*◌, ◌<◌, ◌≤◌, ◌⊎◌, true, false, [], Some, IfNone, IfOk, IfSome, vec_len, vec_capacity};
+ghost use Rattle.std.specs.Prelude.{◌≡◌, ℕ, ◌+◌, ◌*◌, ◌<◌, ◌≤◌, ◌⊎◌, true, false, [], Some, IfNone, IfOk, IfSome, replicate, vec_len, vec_capacity};
 ghost use Rattle.flex_base.specs.Limits.{is_lawful};
 ghost use Rattle.flex_base.specs.Loaded.{image_fits};
 ghost use Rattle.mem_lines.specs.Bank.{is_bank_count};
@@ -6,11 +6,15 @@ ghost use Rattle.access_record.specs.Rule.{occurrences};
 ghost use Rattle.access_record.specs.Passes.{add_hart, new_pass};
 ghost use Rattle.flex_base.specs.Forms.{HasForm};
 ghost use Rattle.flex_base.specs.FlatMemory.{is_ram_access};
-ghost use Rattle.access_record.specs.Buses.{ram_banks, place_in, access_entry, waits, Extends, HasLooked, waits_unwoken};
+ghost use Rattle.flex_base.specs.Devices.{device_stop};
+ghost use Rattle.flex_base.specs.Banks.{accesses_of};
+ghost use Rattle.flex_base.specs.declared.event.What.TheVariants as What;
+ghost use Rattle.access_record.specs.Buses.{ram_banks, place_in, events_of, access_entry, waits, Extends, HasLooked, waits_unwoken};
+ghost use Rattle.access_record.specs.Histories.{done_at, history_after, IsAnsweredIn, Grows, IsUnwokenIn};
 ghost use Rattle.mem_banks.specs.Kept.{IsReady, MayMake};
 ghost use Rattle.mem_banks.specs.Origins.{run_of};
 ghost use Rattle.mem_banks.specs.Plain.{numbers_below, new_slots, AreMade};
-ghost use Rattle.mem_banks.specs.End.{IsMemoryOf, IsFounderOf, AreHeld, passes_down};
+ghost use Rattle.mem_banks.specs.End.{logs_in, IsMemoryOf, IsFounderOf, AreHeld, passes_down};
 
 use crate::at_bank::access_bank;
 use crate::at_devices::{access_devices, wake_at};
@@ -20,7 +24,7 @@ use crate::places::ram_address;
 use crate::slots::share_at;
 use access_record::{AccessRecord, BankPass, Bus, Entry, Founder, Pass};
 use devices::Devices;
-use flex_base::{Access, Engine, HartId, Image, Reply, Settings};
+use flex_base::{Access, Engine, HartId, Image, Reply, Settings, Stop};
 use mem_lines::Lines;
 use std::alloc::{AllocError, Global};
 use std::marker::Model;
@@ -59,7 +63,7 @@ impl Model for PlainBus {
 impl Bus for PlainBus {
     ghost run = { λ s. s.run };
 
-    ghost order = { λ s. Some s.order };
+    ghost history = { λ s. Some s.history };
 
     fn access(&mut self, pass: Pass, engine: Engine, acc: Access) -> (Pass, u64, Reply) {
         self.make(pass, engine, acc)
@@ -98,6 +102,7 @@ impl PlainBus {
         ensures run { IfOk result (λ r. r.0.run ≡ run_of r.0.run.book image.now settings.now input.items) }
         ensures limits { IfOk result (λ r. r.0.run.book.limits
             ≡ record { harts = settings.now.harts; banks = banks + 1; room = 24 * settings.now.budget + 24 }) }
+        ensures history { IfOk result (λ r. r.0.history ≡ record { least = 0; banks = replicate (banks + 1) [] }) }
         ensures founder { IfOk result (λ r. IsFounderOf r.0.run r.1) }
         ensures harts { IfOk result (λ r. r.1.harts ≡ []) }
     {
@@ -153,8 +158,9 @@ impl PlainBus {
     fn learn(&mut self, pass: Pass) -> Pass
         requires book { pass.id ≡ self.old.run.book.id }
         ensures pass { result ≡ record pass { seen = result.seen } }
-        ensures seen { self.old.order ≤ result.seen }
-        ensures same { (self.new.run ≡ self.old.run) × (self.new.newest ≡ self.old.newest) × (self.new.order ≡ self.old.order) }
+        ensures seen { self.old.history.least ≤ result.seen }
+        ensures history { self.new.history ≡ self.old.history }
+        ensures same { (self.new.run ≡ self.old.run) × (self.new.newest ≡ self.old.newest) }
     {
         share_at(&self.book, &mut self.slots[self.newest], pass)
     }
@@ -164,7 +170,7 @@ impl PlainBus {
         requires book { pass.id ≡ self.old.run.book.id }
         requires seen { number + 1 ≤ pass.seen }
         ensures pass { result ≡ record pass { seen = result.seen } }
-        ensures order { self.new.order ≡ number + 1 }
+        ensures history { self.new.history ≡ record self.old.history { least = number + 1 } }
         ensures same { self.new.run ≡ self.old.run }
     {
         let pass = share_at(&self.book, &mut self.slots[self.newest], pass);
@@ -176,7 +182,7 @@ impl PlainBus {
     pub(crate) fn make(&mut self, pass: Pass, engine: Engine, acc: Access) -> (Pass, u64, Reply)
         requires may { MayMake self.old.run pass acc }
         ensures noted { Extends pass result.0 (access_entry engine acc result.2) (Some (place_in self.old.run acc)) result.1 }
-        ensures order { (self.old.order ≤ result.1) × (self.new.order ≡ result.1 + 1) }
+        ensures history { Grows self.old.run self.old.history pass.hart.0 (What.Acc acc result.2) result.1 (Some self.new.history) }
         ensures form { HasForm acc result.2 }
         ensures same { self.new.run ≡ self.old.run }
     {
@@ -211,9 +217,9 @@ impl PlainBus {
         requires ram { is_ram_access acc ≡ true }
         requires here { place_in self.old.run acc ≡ bank }
         requires below { bank < ram_banks self.old.run }
-        requires seen { (bank ≡ self.old.newest) ⊎ (self.old.order ≤ pass.seen) }
+        requires seen { (bank ≡ self.old.newest) ⊎ (self.old.history.least ≤ pass.seen) }
         ensures noted { Extends pass result.0 (access_entry engine acc result.2) (Some (place_in self.old.run acc)) result.1 }
-        ensures order { (self.old.order ≤ result.1) × (self.new.order ≡ result.1 + 1) }
+        ensures history { Grows self.old.run self.old.history pass.hart.0 (What.Acc acc result.2) result.1 (Some self.new.history) }
         ensures form { HasForm acc result.2 }
         ensures same { self.new.run ≡ self.old.run }
     {
@@ -232,8 +238,10 @@ impl PlainBus {
         ensures noted { Extends pass result.0 (access_entry engine acc result.2) (Some (place_in self.old.run acc)) result.1 }
         ensures seen { pass.seen ≤ result.1 }
         ensures after { result.0.seen ≡ result.1 + 1 }
+        ensures answered { IsAnsweredIn self.old.run self.old.history pass.hart.0 (What.Acc acc result.2) }
+        ensures banks { self.new.history.banks ≡ (history_after self.old.run self.old.history pass.hart.0 (What.Acc acc result.2) result.1).banks }
         ensures form { HasForm acc result.2 }
-        ensures same { (self.new.run ≡ self.old.run) × (self.new.order ≡ self.old.order) }
+        ensures same { (self.new.run ≡ self.old.run) × (self.new.history.least ≡ self.old.history.least) }
     {
         let slot = &mut self.slots[self.lines.len()];
         access_devices(&self.book, &mut self.devices, slot, pass, engine, acc)
@@ -245,12 +253,14 @@ impl PlainBus {
         requires waits { waits pass ≡ true }
         ensures woken { IfSome result.1 (λ r. Extends pass result.0 (access_entry engine (Access.Pulse false) r.1)
             (Some (place_in self.old.run (Access.Pulse false))) r.0) }
-        ensures order { IfSome result.1 (λ r. (self.old.order ≤ r.0) × (self.new.order ≡ r.0 + 1)) }
+        ensures history { IfSome result.1 (λ r. Grows self.old.run self.old.history pass.hart.0 (What.Acc (Access.Pulse false) r.1) r.0
+            (Some self.new.history)) }
         ensures form { IfSome result.1 (λ r. HasForm (Access.Pulse false) r.1) }
         ensures value { IfSome result.1 (λ r. r.1.value ≡ 0) }
         ensures looked { IfNone result.1 (HasLooked pass result.0) }
         ensures unwoken { IfNone result.1 (waits_unwoken self.old.run result.0 ≡ true) }
-        ensures stays { IfNone result.1 (self.new.order ≡ self.old.order) }
+        ensures in_history { IfNone result.1 (IsUnwokenIn self.old.run (Some self.old.history) pass.hart.0) }
+        ensures stays { IfNone result.1 (self.new.history ≡ self.old.history) }
         ensures same { self.new.run ≡ self.old.run }
     {
         let pass = self.learn(pass);
@@ -275,15 +285,29 @@ impl PlainBus {
         ensures value { IfSome result.1 (λ r. r.1.value ≡ 0) }
         ensures looked { IfNone result.1 (HasLooked pass result.0) }
         ensures unwoken { IfNone result.1 (waits_unwoken self.old.run result.0 ≡ true) }
-        ensures same { (self.new.run ≡ self.old.run) × (self.new.order ≡ self.old.order) }
+        ensures answered { IfSome result.1 (λ r. IsAnsweredIn self.old.run self.old.history pass.hart.0 (What.Acc (Access.Pulse false) r.1)) }
+        ensures banks { IfSome result.1 (λ r. self.new.history.banks
+            ≡ (history_after self.old.run self.old.history pass.hart.0 (What.Acc (Access.Pulse false) r.1) r.0).banks) }
+        ensures in_history { IfNone result.1 (IsUnwokenIn self.old.run (Some self.old.history) pass.hart.0) }
+        ensures stays { IfNone result.1 (self.new.history.banks ≡ self.old.history.banks) }
+        ensures same { (self.new.run ≡ self.old.run) × (self.new.history.least ≡ self.old.history.least) }
     {
         let slot = &mut self.slots[self.lines.len()];
         wake_at(&self.book, &mut self.devices, slot, pass, engine)
     }
 
+    /// Why the run stops, once it is to stop.
+    pub fn stop(&self) -> Option<Stop>
+        ensures { result ≡ device_stop self.now.run.setup.harts (done_at self.now.history (ram_banks self.now.run)) }
+    {
+        self.devices.stop()
+    }
+
     /// Hands back the memory, with the record and the passes of its banks.
     pub fn dissolve(self) -> EndMemory
-        ensures { IsMemoryOf self.run result }
+        ensures memory { IsMemoryOf self.run result }
+        ensures history { (bank : ℕ) → bank < self.run.book.limits.banks
+            → accesses_of (events_of (logs_in result bank)) ≡ done_at self.history bank }
     {
         let PlainBus {
             book,

@@ -7,11 +7,11 @@ use Rattle.devices.specs.View.{IsReplay}
 use Rattle.access_record.specs.declared.entry.LogEntry.{LogEntry}
 use Rattle.access_record.specs.Buses.{events_of, ram_banks}
 use Rattle.access_record.specs.Logs.{on_bank, of_hart}
-use Rattle.mem_banks.specs.Slots.{pass_of, log_in, seen_in}
+use Rattle.mem_banks.specs.Slots.{pass_of, bank_in, log_in, done_in, seen_in}
 use Rattle.mem_banks.specs.Kept.{AreDevicesOf}
 use Rattle.mem_banks.proofs.Bytes.{entry_of}
 use Rattle.mem_banks.proofs.Waiting.{proper_by}
-use Rattle.mem_banks.proofs.Keeping.{devices_push, room_at, own_bytes, waits_at}
+use Rattle.mem_banks.proofs.Keeping.{more_accesses, devices_answered, devices_push, room_at, own_bytes, waits_at}
 use Rattle.mem_banks.proofs.at_devices.access_devices.Goals as goal
 
 pub act-reply-requires : goal.act-reply-requires
@@ -26,6 +26,26 @@ pub returns-clause-form : goal.returns-clause-form
 returns-clause-form c =
     let run = c.requires.run.0 in
     c.act-reply.ensures.form run.setup.harts run.setup.ram c.requires.run.1.may.placed
+
+pub returns-clause-answered : goal.returns-clause-answered
+returns-clause-answered c = λ run asked.
+    let made = done_in c.args.slot.now in
+    let kept = asked.kept.devices in
+    let pass = c.args.pass in
+    let reply = c.act-reply.result in
+    let hart_is : c.hart.result ≡ pass.hart = search rules in
+    let agree : on_bank (ram_banks run) pass.log ≡ of_hart pass.hart.0 (log_in c.args.slot.now) = search rules in
+    let waits = waits_at run c.args.devices.now pass (log_in c.args.slot.now) kept asked.may.ready.places agree ∙ asked.may.awake in
+    devices_answered run made pass.hart.0 c.args.acc reply asked.device
+    (subst (λ (h : HartId). reply ≡ reply_after run.setup.harts run.setup.input made h.0 c.args.acc) hart_is (c.act-reply.ensures.reply run.setup.harts run.setup.input made kept.replay))
+    (proper_by run.setup.harts made pass.hart.0 c.args.acc waits)
+
+pub returns-clause-done : goal.returns-clause-done
+returns-clause-done c =
+    let slot = c.args.slot.now in
+    let e = entry_of c.args.pass.hart c.args.engine c.args.acc c.act-reply.result (bank_in slot) c.note_at-pass.result.1 in
+    let now_is : c.note_at-pass.new.slot ≡ Some (pass_of c.args.book.now (bank_in slot) (log_in slot ++ e ∷ []) (c.note_at-pass.result.1 + 1)) = search rules in
+    ap done_in now_is ∙ more_accesses (log_in slot) c.args.pass.hart c.args.engine c.args.acc c.act-reply.result (bank_in slot) c.note_at-pass.result.1
 
 pub returns-clause-kept : goal.returns-clause-kept
 returns-clause-kept c = λ run asked.

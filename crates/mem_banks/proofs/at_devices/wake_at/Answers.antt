@@ -10,11 +10,23 @@ use Rattle.devices.specs.View.{IsReplay}
 use Rattle.access_record.specs.declared.entry.LogEntry.{LogEntry}
 use Rattle.access_record.specs.Logs.{on_bank, of_hart}
 use Rattle.access_record.specs.Buses.{events_of, ram_banks}
-use Rattle.mem_banks.specs.Slots.{pass_of, log_in, seen_in}
+use Rattle.mem_banks.specs.Slots.{pass_of, bank_in, log_in, done_in, seen_in}
 use Rattle.mem_banks.specs.Kept.{AreDevicesOf}
 use Rattle.mem_banks.proofs.Bytes.{entry_of}
-use Rattle.mem_banks.proofs.Keeping.{devices_push, waits_at}
+use Rattle.mem_banks.proofs.Keeping.{more_accesses, devices_answered, devices_push, waits_at}
 use Rattle.mem_banks.proofs.at_devices.wake_at.Goals as goal
+
+pub returns-then-not-woken-clause-in_slot : goal.returns-then-not-woken-clause-in_slot
+returns-then-not-woken-clause-in_slot c = λ run asked.
+    let pass = c.args.pass in
+    let made = done_in c.args.slot.now in
+    let kept = asked.kept.devices in
+    let hart_is : c.hart.result ≡ pass.hart = search rules in
+    let agree : on_bank (ram_banks run) pass.log ≡ of_hart pass.hart.0 (log_in c.args.slot.now) = search rules in
+    let waiting = waits_at run c.args.devices.now pass (log_in c.args.slot.now) kept asked.ready.places agree ∙ asked.waits in
+    let told : woken run.setup.harts made pass.hart.0 ≡ false =
+    ap (λ (h : HartId). woken run.setup.harts made h.0) (sym hart_is) ∙ sym (c.woken.ensures.woken run.setup.harts run.setup.input made kept.replay) ∙ search rules in
+    waits-unwoken (devices run.setup.harts made) pass.hart.0 waiting told
 
 pub returns-then-not-woken-clause-unwoken : goal.returns-then-not-woken-clause-unwoken
 returns-then-not-woken-clause-unwoken c = λ run asked.
@@ -45,6 +57,29 @@ returns-clause-value c =
     let same : c.hart-2.result ≡ c.hart.result = search rules in
     ap (λ r. r.value) (c.act-reply.ensures.reply run.setup.harts run.setup.input made replay ∙ ap (λ (h : HartId). reply_after run.setup.harts run.setup.input made h.0 (acc.Pulse false)) same)
     ∙ woken-pulse (devices run.setup.harts made) (input_left run.setup.input made) c.hart.result.0 told
+
+pub returns-clause-answered : goal.returns-clause-answered
+returns-clause-answered c = λ run asked.
+    let pulse : Access = acc.Pulse false in
+    let made = done_in c.args.slot.now in
+    let replay = asked.kept.devices.replay in
+    let pass = c.args.pass in
+    let reply = c.act-reply.result in
+    let hart_is : c.hart-2.result ≡ pass.hart = search rules in
+    let first_is : c.hart.result ≡ pass.hart = search rules in
+    let told : woken run.setup.harts made pass.hart.0 ≡ true =
+    ap (λ (h : HartId). woken run.setup.harts made h.0) (sym first_is) ∙ sym (c.woken.ensures.woken run.setup.harts run.setup.input made replay) ∙ search rules in
+    devices_answered run made pass.hart.0 pulse reply refl
+    (subst (λ (h : HartId). reply ≡ reply_after run.setup.harts run.setup.input made h.0 pulse) hart_is (c.act-reply.ensures.reply run.setup.harts run.setup.input made replay))
+    (woken-unwoken (devices run.setup.harts made) pass.hart.0 told)
+
+pub returns-clause-done : goal.returns-clause-done
+returns-clause-done c =
+    let slot = c.args.slot.now in
+    let pulse : Access = acc.Pulse false in
+    let e = entry_of c.args.pass.hart c.args.engine pulse c.act-reply.result (bank_in slot) c.note_at-pass.result.1 in
+    let now_is : c.note_at-pass.new.slot ≡ Some (pass_of c.args.book.now (bank_in slot) (log_in slot ++ e ∷ []) (c.note_at-pass.result.1 + 1)) = search rules in
+    ap done_in now_is ∙ more_accesses (log_in slot) c.args.pass.hart c.args.engine pulse c.act-reply.result (bank_in slot) c.note_at-pass.result.1
 
 pub returns-clause-kept : goal.returns-clause-kept
 returns-clause-kept c = λ run asked.

@@ -27,7 +27,7 @@ settle-closed-requires g c =
       of_run = (
         run,
         record {
-          of_run = subst (λ (r : Run). IsMemoryOf r c.dissolve-end.result) at_last c.dissolve-end.ensures;
+          of_run = subst (λ (r : Run). IsMemoryOf r c.dissolve-end.result) at_last c.dissolve-end.ensures.memory;
           founder_is = record { id = search rules; banks = search rules };
           ids = subst (λ (ps : List PassOfHart). All Is ps) (sym items) (All-cons Is first (second ∷ []) first_id (All-cons Is second [] second_id none));
           harts = λ hart.

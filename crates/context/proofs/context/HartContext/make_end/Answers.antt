@@ -45,7 +45,7 @@ returns-clause-one g c =
     let gains = gained _ _ _ _ _ _ _ c.note-number.ensures.noted c.hart.ensures c.push_end.ensures in
     steps_from _ _ _ _ _ _ c.self.view_is
     (steps_end _ _ _ _ _ c.finish_in_place-part.new.progress _ _ _ c.finish_in_place-part.result _ _ _ c.self.invariant of ending gains
-    c.note-number.ensures.order c.layout_of-layout.ensures c.finish_in_place-part.ensures.ends (omega (arith, some)))
+    c.note-number.ensures.history c.layout_of-layout.ensures c.finish_in_place-part.ensures.ends (omega (arith, some)))
 
 pub returns-clause-on : goal.returns-clause-on
 returns-clause-on g c =

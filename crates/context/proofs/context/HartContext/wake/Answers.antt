@@ -59,7 +59,7 @@ invariant_of-self g c =
 pub returns-in-Some-clause-one : goal.returns-in-Some-clause-one
 returns-in-Some-clause-one g c =
     let gains = gained _ _ _ _ _ _ _ c.in-Some.ensures.woken c.hart.ensures c.push_access.ensures in
-    is_woken _ _ _ _ c.give.new.progress _ _ c.in-Some.reply _ _ c.self.view_is c.in-Some.ensures.form c.in-Some.ensures.value gains c.in-Some.ensures.order
+    is_woken _ _ _ _ _ c.give.new.progress _ _ c.in-Some.reply _ _ c.self.view_is c.in-Some.ensures.form c.in-Some.ensures.value gains c.in-Some.ensures.history
 
 pub returns-in-Some-clause-on : goal.returns-in-Some-clause-on
 returns-in-Some-clause-on g c =

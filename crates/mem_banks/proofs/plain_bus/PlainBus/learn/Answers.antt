@@ -1,8 +1,10 @@
-use Rattle.std.proofs.Common.{rules, arith, ◌≤◌}
-use Rattle.mem_banks.specs.Slots.{seen_in}
+use Rattle.std.proofs.Common.{rules, arith, ◌≡◌, ◌≤◌, List, ap, ◌∙◌}
+use Rattle.flex_base.specs.FlatMemory.{Done}
+use Rattle.mem_banks.specs.Slots.{done_in, seen_in}
 use Rattle.mem_banks.specs.Origins.{run_from}
-use Rattle.mem_banks.specs.Plain.{next_number}
+use Rattle.mem_banks.specs.Plain.{Plain, next_number}
 use Rattle.mem_banks.proofs.Seen.{held_at, plain-shared, seen-set}
+use Rattle.mem_banks.proofs.Histories.{banks-shared}
 use Rattle.mem_banks.proofs.plain_bus.PlainBus.learn.Goals as goal
 
 pub share_at-requires-clause-held : goal.share_at-requires-clause-held
@@ -26,3 +28,10 @@ invariant_of-self c =
       search rules,
       search rules,
     )
+
+pub returns-clause-history : goal.returns-clause-history
+returns-clause-history c =
+    let same : done_in c.share_at.new.slot ≡ done_in c.index_mut.result.now = ap done_in c.share_at.ensures.slot in
+    ap (λ (banks : List (List Done)). record { least = next_number c.self.inside.latest.value; banks = banks })
+    (banks-shared c.self.inside.slots.items c.self.inside.newest c.index_mut.result.now c.index_mut.ensures.value c.share_at.new.slot same)
+    ∙ ap (λ (v : Plain). v.history) c.self.view_is

@@ -1,8 +1,11 @@
-use Rattle.std.proofs.Common.{rules, ◌≡◌, ◌+◌, refl, [], sym, subst, List, ℕ}
+use Rattle.std.proofs.Common.{rules, ◌≡◌, ◌+◌, refl, [], map, sym, ap, ◌∙◌, subst, List, ℕ}
+use Rattle.flex_base.specs.FlatMemory.{Done}
 use Rattle.devices.specs.View.{IsReplay}
+use Rattle.mem_banks.specs.Slots.{done_in}
 use Rattle.mem_banks.specs.Origins.{run_from}
-use Rattle.mem_banks.specs.Plain.{new_slots, IsOfImage}
+use Rattle.mem_banks.specs.Plain.{next_number, new_slots, IsOfImage}
 use Rattle.mem_banks.proofs.Plains.{plain-begins}
+use Rattle.mem_banks.proofs.Histories.{banks-new}
 use Rattle.mem_banks.proofs.plain_bus.PlainBus.new.Goals as goal
 
 pub invariant_of-bus : goal.invariant_of-bus
@@ -22,3 +25,11 @@ invariant_of-bus c =
       search rules,
       search rules,
     )
+
+pub returns-clause-history : goal.returns-clause-history
+returns-clause-history c =
+    let book = c.in-Ok-new.book in
+    let none : next_number c.of-3.result.value ≡ 0 = search rules in
+    let slots : c.enrol_banks-founder.result.1.items ≡ new_slots book (c.args.banks + 1) = search rules in
+    let banks = ap (map done_in) slots ∙ banks-new book (c.args.banks + 1) in
+    ap (λ (x : ℕ × List (List Done)). record { least = x.0; banks = x.1 }) (λ i. (none i, banks i))
