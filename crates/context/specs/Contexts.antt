@@ -1,5 +1,5 @@
 -- What contracts see of a context, and what its type keeps.
-use Rattle.std.specs.Prelude.{◌≡◌, ℕ, ◌+◌, ◌*◌, ◌<◌, Bool, true, false, List, length, Option, Some}
+use Rattle.std.specs.Prelude.{◌≡◌, ◌≢◌, ℕ, ◌+◌, ◌*◌, ◌<◌, Bool, true, false, List, length, Option, Some}
 use Rattle.flex_base.specs.Setup.{Setup}
 use Rattle.flex_base.specs.Unsplit.{Instruction}
 use Rattle.flex_base.specs.StoryTree.{Asks}
@@ -30,6 +30,9 @@ use Rattle.access_record.specs.Histories.{History, InHistory, IsUnwokenIn}
 use Rattle.transplant_plan.specs.Planning.{engine_at}
 use Rattle.transplant_plan.specs.declared.plan.Plan.{Plan}
 use Rattle.context.specs.declared.wants.Wants.{Wants}
+use Rattle.context.specs.declared.wants.Wants.TheVariants as wants
+use Rattle.context.specs.declared.wants.Went.{Went}
+use Rattle.context.specs.declared.wants.Went.TheVariants as went
 use Rattle.context.specs.Obeying.{wants_of, IsFor, moves, ObeysSoFar}
 use Rattle.context.specs.Fewness.{plain_count, IsFew}
 
@@ -153,27 +156,35 @@ abbrev pub ends_by : What → ℕ
 ends_by (what.End part) = 1
 ends_by other = 0
 
+-- an access stands where its kind may stand
+abbrev pub IsPlacedIn : Setup → What → Type 0
+IsPlacedIn setup (what.Acc access reply) = IsPlaced setup.harts setup.ram access
+IsPlacedIn setup other = Unit {0}
+
 -- the next event of the hart's story was made; an end lowers the ends of the round by one
 pub record Steps (run : Run) (before after : Option History) (old new : Context) : Type 0 where
   pub happened : What
   pub adds : Adds run before after happened old new
   pub may : MayDo run.setup (instruction_at run.setup old) happened
+  pub placed : IsPlacedIn run.setup happened
   pub plain : is_handover happened ≡ false
   pub engine : new.engine ≡ old.engine
   pub left : new.left + ends_by happened ≡ old.left
 
--- it was handed over, and nothing else happened
+-- it was handed over, nothing else happened, and it wants what it wanted
 pub record Moves (run : Run) (before after : Option History) (to : Engine) (old new : Context) : Type 0 where
   pub adds : Adds run before after (what.Handover to) old new
   pub engine : new.engine ≡ to
   pub left : new.left ≡ old.left
+  pub wants : (w : Wants) → IsWanting old w → IsWanting new w
 
--- a parked hart made its pulse, by which it is woken
+-- a parked hart made its pulse, by which it is woken, in the engine to which the plan gives pulses
 pub record IsWoken (run : Run) (before after : Option History) (old new : Context) : Type 0 where
   pub reply : Reply
   pub adds : Adds run before after (what.Acc (acc.Pulse false) reply) old new
   pub form : HasForm (acc.Pulse false) reply
   pub value : reply.value ≡ 0
+  pub here : plan_of old class.Pulse ≡ old.engine
   pub engine : new.engine ≡ old.engine
   pub left : new.left ≡ old.left
 
@@ -190,3 +201,29 @@ pub record IsUnwoken (run : Run) (before after : Option History) (old new : Cont
 abbrev pub HasTried : Run → Option History → Option History → Context → Context → Bool → Type 0
 HasTried run before after old new true = IsWoken run before after old new
 HasTried run before after old new false = IsUnwoken run before after old new
+
+-- nothing happened
+pub record Stays (before after : Option History) (old new : Context) : Type 0 where
+  pub same : new ≡ old
+  pub stays : after ≡ before
+
+-- it made the access or the end that it wanted, of this class, in the engine to which the plan gives the class
+pub record Goes (run : Run) (before after : Option History) (wanted : Class → Wants) (old new : Context) : Type 0 where
+  pub class : Class
+  pub wanting : IsWanting old (wanted class)
+  pub here : plan_of old class ≡ old.engine
+  pub steps : Steps run before after old new
+
+-- it wants an event that is another engine's work, and has an end left in its round
+pub record IsElsewhere (to : Engine) (c : Context) : Type 0 where
+  pub wanted : IsWantedIn c to
+  pub other : to ≢ c.engine
+  pub left : 0 < c.left
+
+-- what came of a call that makes an event only in the engine to which the plan gives it
+abbrev pub HasGone : Run → Option History → Option History → Context → Context → Went → Type 0
+HasGone run before after old new went.Accessed = Goes run before after wants.Ask old new
+HasGone run before after old new went.Ended = Goes run before after wants.Finish old new
+HasGone run before after old new (went.Elsewhere to) = IsElsewhere to old × Stays before after old new
+HasGone run before after old new went.Parked = IsWanting old wants.Parked × Stays before after old new
+HasGone run before after old new went.Over = IsWanting old wants.Over × Stays before after old new

@@ -10,10 +10,10 @@ ghost use Rattle.access_record.specs.Buses.{Run};
 ghost use Rattle.context.specs.declared.wants.Wants.TheVariants as Wants;
 ghost use Rattle.context.specs.declared.wants.Wants.{Wants};
 ghost use Rattle.context.specs.Obeying.{engine_wanted};
-ghost use Rattle.context.specs.Contexts.{new_context, plan_of, layout_of, IsRunOf, instruction_at, IsWanting, IsWantedIn, IsAsking, IsEnding, IsContext, IsOn, IsSame, Steps, Moves, HasTried};
+ghost use Rattle.context.specs.Contexts.{new_context, plan_of, layout_of, IsRunOf, instruction_at, IsWanting, IsWantedIn, IsAsking, IsEnding, IsContext, IsOn, IsSame, Steps, Moves, HasTried, HasGone};
 
 use crate::held::HeldPass;
-use crate::wants::Wants;
+use crate::wants::{Wants, Went};
 use access_record::{Bus, Entry, Pass};
 use flex_base::{Access, Class, Engine, Event, HartId, Layout, Settings, What};
 use hart_story::{Hart, Need, Progress, finish_in_place, give, need};
@@ -210,6 +210,39 @@ impl HartContext {
             Need::Finish(_) => self.make_end(bus),
             Need::Parked => unreachable!(),
             Need::Over => unreachable!(),
+        }
+    }
+
+    /// Makes the hart's next event where the plan gives its class to the engine that the hart is in,
+    /// and answers what came of it. In all else nothing happens.
+    ///
+    /// It asks but once what the hart wants, so it is the call for loops.
+    pub fn go<B: Bus>(&mut self, bus: &mut B) -> Went
+        requires on { IsOn (B.run bus.old) self.old }
+        ensures went { HasGone (B.run bus.old) (B.history bus.old) (B.history bus.new) self.old self.new result }
+        ensures same { IsSame self.old self.new }
+        ensures on { IsOn (B.run bus.old) self.new }
+        ensures bus { B.run bus.new ≡ B.run bus.old }
+    {
+        match self.need() {
+            Need::Ask(access, class) => {
+                let engine = self.plan.engine_for(class);
+                if engine != self.engine {
+                    return Went::Elsewhere(engine);
+                }
+                self.make_access(bus, access);
+                Went::Accessed
+            }
+            Need::Finish(class) => {
+                let engine = self.plan.engine_for(class);
+                if engine != self.engine {
+                    return Went::Elsewhere(engine);
+                }
+                self.make_end(bus);
+                Went::Ended
+            }
+            Need::Parked => Went::Parked,
+            Need::Over => Went::Over,
         }
     }
 

@@ -7,7 +7,7 @@ mod held;
 mod wants;
 
 pub use context::HartContext;
-pub use wants::Wants;
+pub use wants::{Wants, Went};
 
 #[cfg(test)]
 mod tests;
