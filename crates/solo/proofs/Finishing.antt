@@ -1,0 +1,132 @@
+-- What is left at the end of a run is the machine's.
+use Rattle.std.proofs.Common.{◌≡◌, ℕ, ◌<◌, List, [], ◌∷◌, length, map, get_or, ap, sym, subst, ◌∙◌, arith}
+use Rattle.std.proofs.lemmas.List.{get_or-map, length-map}
+use Rattle.flex_base.specs.Setup.{Setup}
+use Rattle.flex_base.specs.FlatMemory.{Done, byte}
+use Rattle.flex_base.specs.Banks.{bank_of, accesses_of}
+use Rattle.flex_base.specs.Following.{instruction_of}
+use Rattle.flex_base.specs.Unsplit.{Machine, Instruction, instruction_at}
+use Rattle.flex_base.specs.declared.event.Event.{Event}
+use Rattle.hart_story.specs.StandsFor.{StandsFor}
+use Rattle.hart_story.specs.declared.hart.Hart.{Hart}
+use Rattle.journal.specs.Log.{Log}
+use Rattle.access_record.specs.declared.entry.LogEntry.{LogEntry}
+use Rattle.access_record.specs.declared.limits.Limits.{Limits}
+use Rattle.access_record.specs.Logs.{IsRecord, sum_below}
+use Rattle.access_record.specs.Passes.{PassOfHart, PassOfBank, AreRecord, logs_of, bank_logs_of}
+use Rattle.access_record.specs.Buses.{ram_banks, events_of}
+use Rattle.mem_lines.specs.Bank.{Bank, IsBank, IsIn, IsReplay, byte_held}
+use Rattle.devices.specs.View as devices
+use Rattle.transplant_plan.specs.Split.{split}
+use Rattle.mem_banks.specs.Plain.{Plain}
+use Rattle.mem_banks.specs.End.{Memory, IsMemoryOf, logs_in}
+use Rattle.context.specs.Contexts as context
+use Rattle.context.specs.Contexts.{Context, IsContext, events_in}
+use Rattle.solo.specs.Solo.{Solo, engines_of, done_at}
+use Rattle.solo.specs.Rising.{Rises, numbered_from, of_hart}
+use Rattle.solo.specs.Standing.{of_bank, Serves, IsAt}
+use Rattle.solo.specs.End.{AreLogsOf, HoldsRam}
+use Rattle.solo.proofs.Flat.{byte_of_part}
+use Rattle.solo.proofs.Merging.{merged_parts}
+use Rattle.solo.proofs.Ending.{AreBelow, ascends_below, sum_same, numbers_known}
+use Rattle.solo.proofs.Settling.{passes_of, AreNumbered, log_at}
+
+some_context : (contexts : List Context) → 0 < length contexts → Context
+some_context [] some = absurd (omega (arith, some))
+some_context (c ∷ contexts) some = c
+
+pub record_of : (limits : Limits) (n : ℕ) (ps : List PassOfHart) (ds : List PassOfBank) → AreRecord limits n ps ds → IsRecord limits n (logs_of ps) (bank_logs_of ds)
+unfolding AreRecord
+record_of limits n ps ds closed = closed
+
+module _ (setup : Setup) (u : Machine) (s : Solo) (at : IsAt setup u s) where
+  abbrev journal : List Event
+  journal = split (engines_of s.plan) setup.harts u.events
+
+  within : (h : ℕ) → h < setup.harts → h < length s.contexts
+  within h below = omega (arith, below, at.counted)
+
+  pub numbered : AreNumbered 0 s.contexts
+  numbered k other below = (at.each k other (omega (arith, below, at.counted))).number
+
+  -- the log of a hart's pass has its part
+  log_part : (n : ℕ) (h : ℕ) (other : Context) → h < setup.harts → events_of (logs_of (passes_of s.contexts) h) ≡ of_hart h at.made
+  log_part n h other below =
+      ap events_of (log_at 0 h s.contexts other numbered (within h below)) ∙ (at.each h other below).events
+
+  module _ (limits : Limits) (n : ℕ) (ds : List PassOfBank) (closed : AreRecord limits n (passes_of s.contexts) ds) (harts : limits.harts ≡ setup.harts) where
+    abbrev closes : IsRecord limits n (logs_of (passes_of s.contexts)) (bank_logs_of ds)
+    closes = record_of limits n (passes_of s.contexts) ds closed
+
+    any : Context
+    any = some_context s.contexts (omega (arith, at.some, at.counted))
+
+    known : (numbered_from 0 at.made ≡ at.made) × Rises 0 (length at.made) at.made
+    known =
+        let below = λ (h : ℕ) (within_h : h < setup.harts).
+        let Below : List Event → Type 0 = λ es. AreBelow n es in
+        subst Below (log_part n h any within_h) (ascends_below 0 n (logs_of (passes_of s.contexts) h) (closes.hart_numbers h)) in
+        let lengths = sum_same (λ h. length (logs_of (passes_of s.contexts) h)) (λ h. length (of_hart h at.made)) setup.harts (λ h within_h.
+        sym (length-map (logs_of (passes_of s.contexts) h) (λ (e : LogEntry). e.event)) ∙ ap (λ (es : List Event). length es) (log_part n h any within_h)) in
+        let count = closes.count ∙ ap (λ m. sum_below m (λ h. length (logs_of (passes_of s.contexts) h))) harts ∙ lengths in
+        numbers_known setup.harts _ n at.made at.are_made.rises at.are_made.harts_are below count
+
+    journal_made : at.made ≡ journal
+    journal_made = sym known.0 ∙ at.are_made.journal_is
+
+    -- the logs of the contexts are those of the journal
+    pub logs_end : ((h : ℕ) (other : Context) → h < length s.contexts → IsContext (get_or s.contexts h other))
+        → AreLogsOf setup.harts journal (map (λ (c : Context). c.log) s.contexts)
+    logs_end are =
+        let logs = map (λ (c : Context). c.log) s.contexts in
+        let count : length logs ≡ setup.harts = length-map s.contexts (λ (c : Context). c.log) ∙ at.counted in
+        let each = λ (h : ℕ) (other : Log) (below : h < setup.harts).
+        ap (λ (l : Log). l.events) (get_or-map (λ (c : Context). c.log) s.contexts h any other (within h below))
+        ∙ (are h any (within h below)).whole ∙ (at.each h any below).events in
+        let Of : List Event → Type 0 = λ es. AreLogsOf setup.harts es logs in
+        subst Of journal_made (merged_parts setup.harts at.made logs known.1 at.are_made.harts_are count each)
+
+  -- the harts are where the machine's are
+  pub harts_end : ((h : ℕ) (other : Context) → h < length s.contexts → IsContext (get_or s.contexts h other))
+      → (h : ℕ) (other : Hart) → h < setup.harts → StandsFor (get_or (map (λ (c : Context). c.hart) s.contexts) h other) (instruction_at u h).state
+  harts_end are h other below =
+      let c = get_or s.contexts h (some_context s.contexts (omega (arith, at.some, at.counted))) in
+      let any = some_context s.contexts (omega (arith, at.some, at.counted)) in
+      let is = get_or-map (λ (c : Context). c.hart) s.contexts h any other (within h below) in
+      let there = at.each h any below in
+      let Of : Setup → Type 0 = λ x. context.IsRunOf c.entry c.settings x in
+      let of = subst Of at.memory.setup_is there.on.setup in
+      let stands = ((are h any (within h below)).stands setup of).at.stands in
+      let same : context.instruction_at setup c ≡ instruction_at u h =
+      ap (λ (n : ℕ). instruction_of setup n (events_in c)) there.number ∙ sym there.instruction in
+      let Stands : Hart × Instruction → Type 0 = λ x. StandsFor x.0 x.1.state in
+      subst Stands (λ i. (sym is i, same i)) stands
+
+-- Memory.
+
+module _ (setup : Setup) (u : Machine) (bus : Plain) (memory : Memory) (serves : Serves setup u bus) (of : IsMemoryOf bus.run memory)
+    (history : (bank : ℕ) → bank < bus.run.book.limits.banks → accesses_of (events_of (logs_in memory bank)) ≡ done_at bus bank) where
+  pub lines_end : (bank : ℕ) (b : Bank) → bank < length memory.lines → HoldsRam setup u (length memory.lines) bank (get_or memory.lines bank b)
+  lines_end bank b below =
+      let held = get_or memory.lines bank b in
+      let is = of.banks bank b below in
+      let under : bank < ram_banks bus.run = omega (arith, below, of.counted) in
+      let done = history bank (omega (arith, under, serves.whole)) ∙ serves.banks bank under in
+      let At : Setup × List Done → Type 0 = λ x. IsReplay x.0 x.1 held in
+      let replay = subst At (λ i. (serves.setup_is i, done i)) is.replay in
+      let Is : ℕ × ℕ → Type 0 = λ x. IsBank x.0 x.1 bank held in
+      let ram = ap (λ (x : Setup). x.ram) serves.setup_is in
+      record {
+        is_bank = subst Is (λ i. (ram i, sym of.counted i)) is.is_bank;
+        each = λ address inside.
+            let here : bank_of (ram_banks bus.run) address ≡ bank = ap (λ n. bank_of n address) (sym is.is_bank.banks_are) ∙ inside.bank ∙ is.is_bank.bank_is in
+            replay.each address inside
+            ∙ ap (λ n. byte setup.image (of_bank (ram_banks bus.run) n u.ram) address) (sym here)
+            ∙ sym (byte_of_part setup setup.image (ram_banks bus.run) u.ram address serves.placed);
+      }
+
+  pub devices_end : devices.IsReplay setup.harts setup.input u.devices memory.devices
+  devices_end =
+      let done = history (ram_banks bus.run) (omega (arith, serves.whole)) ∙ serves.devices in
+      let At : Setup × List Done → Type 0 = λ x. devices.IsReplay x.0.harts x.0.input x.1 memory.devices in
+      subst At (λ i. (serves.setup_is i, done i)) of.devices.replay

@@ -1,0 +1,16 @@
+pub mod Rising
+pub mod Rounds
+pub mod Standing
+pub mod Merging
+pub mod Stepping
+pub mod Making
+pub mod Flat
+pub mod Serving
+pub mod Waking
+pub mod Ending
+pub mod Events
+pub mod Settling
+pub mod Finishing
+pub mod Room
+pub mod Wakes
+pub mod Trying

@@ -1,0 +1,47 @@
+-- The end of a run, and the state of the unsplit machine that it is.
+use Rattle.std.specs.Prelude.{◌≡◌, ℕ, ◌<◌, true, List, length, slice_index_or, None, Some}
+use Rattle.flex_base.specs.Setup.{Setup}
+use Rattle.flex_base.specs.FlatMemory.{byte}
+use Rattle.flex_base.specs.Devices.{device_stop}
+use Rattle.flex_base.specs.Merging.{merge}
+use Rattle.flex_base.specs.Unsplit.{Machine, instruction_at}
+use Rattle.flex_base.specs.declared.event.Event.{Event}
+use Rattle.hart_story.specs.StandsFor.{StandsFor}
+use Rattle.hart_story.specs.declared.hart.Hart.{Hart}
+use Rattle.journal.specs.Log.{Log, all_events}
+use Rattle.mem_lines.specs.Bank.{Bank, IsBank, IsIn, byte_held}
+use Rattle.devices.specs.View.{DevicesView, IsReplay}
+use Rattle.transplant_plan.specs.Split.{split}
+use Rattle.transplant_plan.specs.declared.plan.Plan.{Plan}
+use Rattle.mem_banks.specs.End.{Memory}
+use Rattle.mem_banks.specs.declared.ended.Ended.{Ended}
+use Rattle.solo.specs.Solo.{engines_of}
+use Rattle.solo.specs.Rising.{of_hart}
+
+-- the logs are those of the harts in rising order: each has the hart's events of the journal, and the merge of all is the
+-- journal
+pub record AreLogsOf (harts : ℕ) (journal : List Event) (logs : List Log) : Type 0 where
+  pub counted : length logs ≡ harts
+  pub each : (h : ℕ) (other : Log) → h < harts → (slice_index_or logs h other).events ≡ of_hart h journal
+  pub merged : merge (length journal) (all_events logs) ≡ journal
+
+-- each byte of the bank is as the machine's accesses have left it
+pub record HoldsRam (setup : Setup) (u : Machine) (banks bank : ℕ) (b : Bank) : Type 0 where
+  pub is_bank : IsBank setup.ram banks bank b
+  pub each : (address : ℕ) → IsIn b address → byte_held b address ≡ byte setup.image u.ram address
+
+pub record IsMemoryAt (setup : Setup) (u : Machine) (memory : Memory) : Type 0 where
+  pub lines : (bank : ℕ) (b : Bank) → bank < length memory.lines
+      → HoldsRam setup u (length memory.lines) bank (slice_index_or memory.lines bank b)
+  pub devices : IsReplay setup.harts setup.input u.devices memory.devices
+  pub keeps : memory.devices.console.keeps ≡ true
+  pub settled : memory.unsettled ≡ None
+
+-- what is left of a run that ended in this state under this plan
+pub record IsEnd (setup : Setup) (plan : Plan) (u : Machine) (ended : Ended) : Type 0 where
+  pub stop_is : device_stop setup.harts u.devices ≡ Some ended.stop
+  pub counted : length ended.harts.items ≡ setup.harts
+  pub harts : (h : ℕ) (other : Hart) → h < setup.harts
+      → StandsFor (slice_index_or ended.harts.items h other) (instruction_at u h).state
+  pub logs : AreLogsOf setup.harts (split (engines_of plan) setup.harts u.events) ended.logs.items
+  pub memory : IsMemoryAt setup u ended.memory

@@ -1,0 +1,7 @@
+pub mod Solo
+pub mod Rising
+pub mod Standing
+pub mod Playing
+pub mod End
+pub mod Begun
+pub mod Room

@@ -1,0 +1,12 @@
+//! A split machine on one thread: the harts in their contexts, which one bus serves, in any order.
+//! What it does is what the unsplit machine does in that order, with each event in the engine that
+//! the plan names.
+#![tactic(auto)]
+
+mod machine;
+mod room;
+
+pub use machine::SoloMachine;
+
+#[cfg(test)]
+mod tests;
