@@ -7,13 +7,11 @@
 
 mod image;
 mod leaving;
-mod memory;
 mod pieces;
-mod player;
 mod prepared;
+mod ram_digest;
 mod solo;
 mod sources;
-mod split_run;
 mod status;
 mod top;
 mod trace_file;

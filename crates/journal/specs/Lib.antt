@@ -1,3 +1,4 @@
 pub mod Log
 pub mod Packing
 pub mod Keeping
+pub mod Merged
