@@ -1,4 +1,3 @@
 pub mod Log
 pub mod Packing
 pub mod Keeping
-pub mod Merged

@@ -19,9 +19,9 @@ const MORE: usize = 65_536;
 /// and the room that is left.
 #[derive(Drop)]
 pub struct HartLog {
-    pub(crate) kept: Vec<Kept>,
+    kept: Vec<Kept>,
     // The last numbers of those events in which they aren't small.
-    pub(crate) beside: Vec<u64>,
+    beside: Vec<u64>,
     whole: u64,
 }
 

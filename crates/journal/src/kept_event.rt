@@ -11,9 +11,9 @@ use std::marker::Model;
 /// one, no event need be made.
 #[derive(Drop)]
 pub struct KeptEvent<'a> {
-    pub(crate) kept: &'a Kept,
+    kept: &'a Kept,
     // Its last number, if that stands beside the events.
-    pub(crate) beside: u64,
+    beside: u64,
 }
 
 impl<'a> Model for KeptEvent<'a> {

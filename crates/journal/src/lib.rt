@@ -6,14 +6,12 @@ mod events;
 mod hart_log;
 mod kept;
 mod kept_event;
-mod merged;
 mod parts;
 
 pub use by_number::pick;
 pub use events::Events;
 pub use hart_log::HartLog;
 pub use kept_event::{KeptEvent, KeptEvents};
-pub use merged::{ByNumber, by_number};
 
 #[cfg(test)]
 mod tests;
