@@ -41,11 +41,13 @@ use Rattle.access_record.specs.Passes.{PassOfHart}
 use Rattle.access_record.specs.Buses.{Run, NamesPlace, IsGiven, events_of, waits, engine_of, Extends, HasLooked}
 use Rattle.access_record.specs.Histories.{History, InHistory}
 use Rattle.access_record.proofs.Extending.{events_of-push, extends-places}
+use Rattle.transplant_plan.specs.Planning.{engine_at}
+use Rattle.transplant_plan.specs.declared.plan.Plan.{Plan}
 use Rattle.context.specs.declared.wants.Wants.{Wants}
 use Rattle.context.specs.declared.wants.Wants.TheVariants as wants
 use Rattle.context.specs.Obeying.{wants_of, IsFor, engine_wanted, moves, ObeysSoFar}
 use Rattle.context.specs.Fewness.{plain_count, IsFew}
-use Rattle.context.specs.Contexts.{Context, context_of, plan_of, layout_of, IsRunOf, events_in, instruction_at, wants_in, IsWanting, IsWantedIn, IsAsking, IsEnding, StandsIn, IsContext, IsOn, Steps, Moves, IsWoken, IsElsewhere}
+use Rattle.context.specs.Contexts.{Context, context_of, plan_of, layout_of, IsRunOf, events_in, instruction_at, wants_in, IsWanting, IsWantedIn, IsAsking, IsEnding, StandsIn, IsContext, IsOn, IsSame, Steps, Moves, IsWoken, IsElsewhere}
 use Rattle.context.proofs.Fewness.{few_access, few_end}
 use Rattle.context.proofs.Obeying.{moves-push, plain_count-push, obeys_event, obeys_handover, obeys_length}
 
@@ -414,6 +416,14 @@ moves_to run before after c k pass log to bank number is context gains history =
       wants = wants_still;
     } in
     subst (λ (x : Context). Moves run before after to x (next c c.hart c.progress pass log to c.left)) is moves
+
+-- then it wants an event of the engine that it is in
+pub wanted_moved : (run : Run) (before after : Option History) (to : Engine) (old new : Context) → Moves run before after to old new → IsSame old new
+    → IsWantedIn old to → IsWantedIn new new.engine
+wanted_moved run before after to old new moved same w =
+    let For : Plan × Engine → Type 0 = λ p. IsFor (λ k. engine_at p.0.engines k) w.0 p.1 in
+    let there : IsFor (plan_of new) w.0 new.engine = subst For (λ i. (sym same.plan i, sym moved.engine i)) w.2 in
+    (w.0, moved.wants w.0 w.1, there)
 
 -- An end.
 
