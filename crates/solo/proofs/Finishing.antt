@@ -22,14 +22,14 @@ use Rattle.access_record.specs.Logs.{IsRecord, sum_below}
 use Rattle.access_record.specs.Passes.{PassOfHart, PassOfBank, AreRecord, EachHasPass, logs_of, bank_logs_of}
 use Rattle.access_record.specs.Buses.{ram_banks, events_of}
 use Rattle.access_record.proofs.Totals.{sum_below-same}
-use Rattle.mem_lines.specs.Bank.{Bank, IsBank, IsIn, IsReplay, byte_held}
+use Rattle.mem_lines.specs.Bank.{Bank, IsBank, IsReplay}
 use Rattle.devices.specs.View as devices
 use Rattle.devices.specs.View.{DevicesView}
 use Rattle.transplant_plan.specs.Split.{split}
 use Rattle.transplant_plan.specs.declared.plan.Plan.{Plan}
 use Rattle.transplant_plan.proofs.Splits.{split_legal}
 use Rattle.mem_banks.specs.Plain.{Plain}
-use Rattle.mem_banks.specs.End.{Memory, IsMemoryOf, MaySettle, bank_passes, logs_in}
+use Rattle.mem_banks.specs.End.{Memory, IsMemoryOf, MaySettle, logs_in}
 use Rattle.mem_banks.specs.declared.ended.Ended.{Ended}
 use Rattle.context.specs.Contexts as context
 use Rattle.context.specs.Contexts.{Context, IsContext, events_in}

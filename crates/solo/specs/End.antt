@@ -12,7 +12,7 @@ use Rattle.hart_story.specs.StandsFor.{StandsFor}
 use Rattle.hart_story.specs.declared.hart.Hart.{Hart}
 use Rattle.journal.specs.Log.{Log, all_events}
 use Rattle.mem_lines.specs.Bank.{Bank, IsBank, IsIn, byte_held}
-use Rattle.devices.specs.View.{DevicesView, IsReplay}
+use Rattle.devices.specs.View.{IsReplay}
 use Rattle.transplant_plan.specs.Split.{split}
 use Rattle.transplant_plan.specs.declared.plan.Plan.{Plan}
 use Rattle.mem_banks.specs.End.{Memory}
