@@ -15,4 +15,5 @@ bytes_from setup u address count = map (λ i. byte setup.image u.ram (address + 
 pub record AreBanks (setup : Setup) (u : Machine) (ram : ℕ) (banks : List Bank) : Type 0 where
   pub size : setup.ram ≡ ram
   pub counted : is_bank_count (length banks) ≡ true
-  pub each : (bank : ℕ) (b : Bank) → bank < length banks → HoldsRam setup u (length banks) bank (slice_index_or banks bank b)
+  pub each : (bank : ℕ) (b : Bank) → bank < length banks
+      → HoldsRam setup u (length banks) bank (slice_index_or banks bank b)

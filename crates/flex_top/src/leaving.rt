@@ -25,10 +25,10 @@ pub(crate) fn leave<O: Outer>(
     tail: &[TailLine],
 ) -> Result<(), Failed>
     ensures ok { OnOk result (Leaves
-        (outcome_with console.now name.now (whole_text settings.now events tail.now))
+        (outcome_with console.now name.now (whole_text settings.now events.entry tail.now))
         (O.outside outer.old) (O.outside outer.new)) }
     ensures err { OnErr result (LeavesPart
-        (outcome_with console.now name.now (whole_text settings.now events tail.now))
+        (outcome_with console.now name.now (whole_text settings.now events.entry tail.now))
         (O.outside outer.old) (O.outside outer.new)) }
     ensures others { Writes (O.outside outer.old) (O.outside outer.new) name.now (λ was is. Unit {0}) }
     ensures frame { OnlyLeaves (O.outside outer.old) (O.outside outer.new) (IsErr result) }

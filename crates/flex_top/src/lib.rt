@@ -10,7 +10,7 @@ mod leaving;
 mod pieces;
 mod prepared;
 mod ram_digest;
-mod solo;
+mod solo_command;
 mod sources;
 mod status;
 mod top;

@@ -1,5 +1,4 @@
-ghost use Rattle.std.specs.Prelude.{◌≡◌, ◌×◌, ℕ, length, true};
-ghost use Rattle.std.specs.List.{range_with_len};
+ghost use Rattle.std.specs.Prelude.{◌≡◌, ◌≤◌, true};
 ghost use Rattle.sha2.specs.Sha256.{sha256};
 ghost use Rattle.flex_base.specs.Place.{in_ram};
 ghost use Rattle.flex_base.specs.Setup.{Setup};
@@ -17,6 +16,7 @@ const LINE: u64 = 64;
 
 /// The SHA-256 of all bytes of RAM, of so many bytes, whose lines these banks hold.
 pub(crate) fn ram_digest(banks: &[Lines], ram: u64) -> [u8; 32]
+    requires size { ram ≤ 268435456 }
     requires lines { is_multiple ram 64 ≡ true }
     requires banks { (setup : Setup) × (u : Machine) × AreBanks setup u ram banks.now }
     ensures { (setup : Setup) (u : Machine) → AreBanks setup u ram banks.now → result ≡ sha256 (ram_bytes setup u) }

@@ -24,9 +24,9 @@ pub fn write_trace<O: Outer>(
     tail: &[TailLine],
 ) -> Result<(), Failed>
     ensures ok { OnOk result (Writes (O.outside outer.old) (O.outside outer.new) name.now
-        (Becomes (whole_text settings.now events tail.now))) }
+        (Becomes (whole_text settings.now events.entry tail.now))) }
     ensures err { OnErr result (Writes (O.outside outer.old) (O.outside outer.new) name.now
-        (BecomesPart (whole_text settings.now events tail.now))) }
+        (BecomesPart (whole_text settings.now events.entry tail.now))) }
     ensures frame { OnlyWrites (O.outside outer.old) (O.outside outer.new) (IsErr result) }
 {
     outer.start(name)?;
@@ -47,9 +47,9 @@ fn add_events<O: Outer>(
 ) -> Result<(), Failed>
     requires { length pieces.old < 65536 }
     ensures ok { OnOk result (Passes (O.outside outer.old) (O.outside outer.new) name.now
-        pieces.old pieces.new (flat_map event_text events)) }
+        pieces.old pieces.new (flat_map event_text events.entry)) }
     ensures err { OnErr result (PassesPart (O.outside outer.old) (O.outside outer.new) name.now
-        pieces.old (flat_map event_text events)) }
+        pieces.old (flat_map event_text events.entry)) }
     ensures room { OnOk result (length pieces.new < 65536) }
     ensures frame { OnlyWrites (O.outside outer.old) (O.outside outer.new) (IsErr result) }
 {

@@ -1,4 +1,4 @@
-ghost use Rattle.std.specs.Prelude.{◌≡◌, ◌≢◌, ◌×◌, true, Ok, OnOk, OnErr, IsErr};
+ghost use Rattle.std.specs.Prelude.{◌≡◌, ◌≢◌, true, Ok, OnOk, OnErr, IsErr};
 ghost use Rattle.flex_base.specs.Loaded.{Loaded, image_fits};
 ghost use Rattle.flex_base.specs.Outside.{Writes};
 ghost use Rattle.flex_base.specs.Setup.{Setup};
