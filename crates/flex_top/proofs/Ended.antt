@@ -1,14 +1,18 @@
 -- What is left of a run that has ended.
 use Rattle.std.proofs.Common.{◌≡◌, ℕ, ◌<◌, ◌≤◌, List, Option, Some, length, get_or, ap, sym, subst, ◌∙◌, arith}
 use Rattle.sha2.specs.Sha256.{sha256}
+use Rattle.flex_base.specs.Loaded.{Loaded}
+use Rattle.flex_base.specs.Rounds.{rounds, names_played}
 use Rattle.flex_base.specs.Setup.{Setup}
 use Rattle.flex_base.specs.State.{State}
 use Rattle.flex_base.specs.Devices.{device_stop, sent_bytes}
-use Rattle.flex_base.specs.Unsplit.{Machine, instruction_at}
+use Rattle.flex_base.specs.Unsplit.{Machine, instruction_at, begin, reach, reach_from}
 use Rattle.flex_base.specs.declared.event.Event.{Event}
 use Rattle.flex_base.specs.declared.event.Stop.{Stop}
 use Rattle.flex_base.specs.declared.settings.Settings.{Settings}
+use Rattle.flex_base.proofs.Machines.{reach-append}
 use Rattle.hart_story.specs.declared.hart.Hart.{Hart}
+use Rattle.image_loader.specs.Loading.{IsSameStart}
 use Rattle.journal.specs.Log.{Log}
 use Rattle.journal.specs.Merged.{AreLogsOf}
 use Rattle.mem_lines.specs.Bank.{Bank}
@@ -20,10 +24,13 @@ use Rattle.solo.specs.End.{IsEnd}
 use Rattle.tracer.specs.Tail.{AllStand, tail_lines}
 use Rattle.tracer.specs.Trace.{settings_of, ram_bytes, tail_of, whole_text}
 use Rattle.tracer.specs.declared.tail_text.TailLine.{TailLine}
-use Rattle.flex_top.specs.Answer.{outcome_with}
+use Rattle.flex_top.specs.Answer.{setup_of, outcome_with, outcome_of_run}
 use Rattle.flex_top.specs.Ended.{outcome_at}
 use Rattle.flex_top.specs.Ram.{AreBanks}
+use Rattle.flex_top.specs.Words.{Reading}
 use Rattle.flex_top.proofs.Merged.{logs_are}
+use Rattle.flex_top.proofs.SameStart.{outcome_same}
+use Rattle.flex_top.proofs.Writing.{outcome_is}
 
 module _ (plan : Plan) (setup : Setup) (u : Machine) (ended : Ended) (end : IsEnd setup plan u ended) where
   -- the logs are those of the split journal
@@ -62,3 +69,16 @@ outcome_left plan setup u settings name console events tail of sent journal tail
     ∙ ap (λ (s : Settings). outcome_with (sent_bytes u.devices) name (whole_text s events tail)) (sym of)
     ∙ ap (λ (es : List Event). outcome_with (sent_bytes u.devices) name (whole_text (settings_of setup) es tail)) journal
     ∙ ap (λ (t : List TailLine). outcome_with (sent_bytes u.devices) name (whole_text (settings_of setup) (split (shown plan).engines setup.harts u.events) t)) tail_is
+
+-- that of an order and the rounds after it is the outcome of the run of each image with the same start
+pub outcome_played : (given plan : Plan) (r : Reading) (start image : Loaded) (input : List ℕ) (settings : Settings) (order : List ℕ) → given ≡ plan → IsSameStart start image → order ≡ r.order
+    → outcome_at given (setup_of image input settings)
+    (reach_from (setup_of image input settings) (reach (setup_of image input settings) order) (rounds (setup_of image input settings) (reach (setup_of image input settings) order))) r.trace
+    ≡ outcome_of_run r (shown plan).engines (setup_of start input settings)
+outcome_played given plan r start image input settings order planned same names =
+    let setup = setup_of image input settings in
+    ap (λ (p : Plan). outcome_at p setup (reach_from setup (reach setup order) (rounds setup (reach setup order))) r.trace) planned
+    ∙ ap (λ (u : Machine). outcome_at plan setup u r.trace) (sym (reach-append setup (begin setup) order (rounds setup (reach setup order))))
+    ∙ ap (λ (ns : List ℕ). outcome_at plan setup (reach setup (names_played setup ns)) r.trace) names
+    ∙ sym (outcome_same start image input settings same plan r.order r.trace)
+    ∙ outcome_is plan r (setup_of start input settings)
