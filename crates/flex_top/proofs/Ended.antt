@@ -1,5 +1,5 @@
 -- What is left of a run that has ended.
-use Rattle.std.proofs.Common.{◌≡◌, ℕ, ◌<◌, ◌≤◌, List, Option, Some, length, get_or, ap, sym, subst, ◌∙◌, arith}
+use Rattle.std.proofs.Common.{◌≡◌, ℕ, ◌≤◌, List, Option, Some, length, ap, sym, subst, ◌∙◌, arith}
 use Rattle.sha2.specs.Sha256.{sha256}
 use Rattle.flex_base.specs.Loaded.{Loaded}
 use Rattle.flex_base.specs.Rounds.{rounds, names_played}

@@ -6,7 +6,7 @@ use Rattle.std.proofs.Math.Path.{fun_ext}
 use Rattle.flex_base.specs.Causes.{instruction_access_fault}
 use Rattle.flex_base.specs.Devices.{device_stop, reply_after, sent_bytes}
 use Rattle.flex_base.specs.Ends.{traps}
-use Rattle.flex_base.specs.FlatMemory.{Done, is_ram_access, image_byte, byte, left_by, flat, read_at, reply_with, value_at}
+use Rattle.flex_base.specs.FlatMemory.{Done, is_ram_access, byte, left_by, flat, read_at, reply_with, value_at}
 use Rattle.flex_base.specs.Loaded.{Loaded}
 use Rattle.flex_base.specs.Place.{in_ram, ram_base}
 use Rattle.flex_base.specs.Rounds.{turn, turn_of, turns, repeated, most_rounds, names_played}
@@ -17,7 +17,7 @@ use Rattle.flex_base.specs.Story.{works, fetches_at, interrupted_by, begins, aft
 use Rattle.flex_base.specs.StoryTree.{Want, Asks, Ends, IsOver, IsParked, Story, Says, Closes, StaysOver, Parks, goes, want}
 use Rattle.flex_base.specs.Translating.{translates}
 use Rattle.flex_base.specs.Traps.{takeable}
-use Rattle.flex_base.specs.Unsplit.{Machine, Instruction, instruction_from, instruction_at, begin, story_of, is_idle, is_woken_in, resumes, next_of, reply_to, makes, make, step, reach_from, reach, has_ended, hart_numbers}
+use Rattle.flex_base.specs.Unsplit.{Machine, instruction_from, instruction_at, begin, story_of, is_idle, is_woken_in, resumes, next_of, reply_to, makes, make, step, reach_from, reach, has_ended, hart_numbers}
 use Rattle.flex_base.specs.declared.access.Access.{Access}
 use Rattle.flex_base.specs.declared.access.Access.TheVariants as acc
 use Rattle.flex_base.specs.declared.access.Reply.{Reply}
@@ -30,7 +30,7 @@ use Rattle.transplant_plan.specs.Shown.{shown}
 use Rattle.transplant_plan.specs.Split.{split}
 use Rattle.transplant_plan.specs.declared.plan.Plan.{Plan}
 use Rattle.tracer.specs.Tail.{tail_lines}
-use Rattle.tracer.specs.Trace.{ram_bytes, tail_of, whole_text, settings_of}
+use Rattle.tracer.specs.Trace.{ram_bytes, tail_of, whole_text}
 use Rattle.tracer.specs.declared.tail_text.TailLine.{TailLine}
 use Rattle.flex_top.specs.Answer.{setup_of, outcome_with}
 use Rattle.flex_top.specs.Ended.{outcome_at}

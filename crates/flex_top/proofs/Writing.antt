@@ -4,11 +4,10 @@ use Rattle.flex_base.specs.Setup.{Setup}
 use Rattle.flex_base.specs.Devices.{sent_bytes}
 use Rattle.transplant_plan.specs.Shown.{shown}
 use Rattle.transplant_plan.specs.declared.plan.Plan as declared
-use Rattle.flex_base.specs.Unsplit.{Machine, unsplit, reach, has_ended}
+use Rattle.flex_base.specs.Unsplit.{unsplit, reach, has_ended}
 use Rattle.flex_base.specs.Rounds.{names_played}
 use Rattle.transplant_plan.specs.Split.{Plan, split}
 use Rattle.flex_base.specs.Journal.{console, strip}
-use Rattle.flex_base.specs.declared.event.Event.{Event}
 use Rattle.transplant_plan.proofs.Splits.{reach-order_of, split_legal, strip-split-unsplit}
 use Rattle.transplant_plan.proofs.Obeying.{split_obeys}
 use Rattle.flex_base.proofs.EndOfRun.{run_goes_on}

@@ -1,5 +1,5 @@
 -- The line is where its number says, and each of its bytes is the machine's.
-use Rattle.std.proofs.Common.{◌≡◌, ℕ, ◌+◌, ap, sym, ◌∙◌}
+use Rattle.std.proofs.Common.{◌+◌, sym}
 use Rattle.mem_lines.specs.Bank.{Bank}
 use Rattle.flex_top.proofs.Ram.{line_here, line_is}
 use Rattle.flex_top.proofs.ram_digest.line_at.Goals as goal

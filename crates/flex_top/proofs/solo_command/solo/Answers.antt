@@ -1,5 +1,5 @@
 -- The order and then the rounds are played, and what is left is the outcome of the run of each image with the same start.
-use Rattle.std.proofs.Common.{◌≡◌, List, ℕ, map, refl, subst, ◌∙◌}
+use Rattle.std.proofs.Common.{◌≡◌, map, refl, subst, ◌∙◌}
 use Rattle.flex_base.specs.Unsplit.{begin}
 use Rattle.flex_top.specs.Answer.{Outcome, setup_of}
 use Rattle.flex_top.specs.Does.{Leaves, LeavesPart}

@@ -1,5 +1,5 @@
 -- The files are those that the words name, and the run is theirs.
-use Rattle.std.proofs.Common.{◌≡◌, ℕ, List, Option, None, Some, Vec, Global, refl, ap, sym, subst, ◌∙◌}
+use Rattle.std.proofs.Common.{◌≡◌, ℕ, List, Option, Some, Vec, Global, subst, ◌∙◌}
 use Rattle.flex_base.specs.Files.{Files}
 use Rattle.flex_base.specs.Loaded.{Loaded}
 use Rattle.flex_base.specs.declared.image.Image.{Image}

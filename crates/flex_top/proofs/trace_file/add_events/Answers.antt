@@ -1,4 +1,4 @@
-use Rattle.std.proofs.Common.{◌∙◌, rules}
+use Rattle.std.proofs.Common.{rules}
 use Rattle.tracer.specs.EventText.{event_text}
 use Rattle.flex_top.proofs.Growth.{on_err, passes_none, passes_put, part_put, passes_push, part_push, come_more}
 use Rattle.flex_top.proofs.trace_file.add_events.Goals as goal
