@@ -40,10 +40,10 @@ module _ (plan : Plan) (setup : Setup) (u : Machine) (ended : Ended) (end : IsEn
       subst Of (sym same) (logs_are setup.harts (split (shown plan).engines setup.harts u.events) ended.logs.items few end.logs)
 
   -- the banks hold RAM
-  pub banks_left : (ram : ℕ) (banks : List Bank) → setup.ram ≡ ram → banks ≡ ended.memory.lines → AreBanks setup u ram banks
-  banks_left ram banks size same =
-      let Are : List Bank → Type 0 = λ bs. AreBanks setup u ram bs in
-      subst Are (sym same) (record { size = size; counted = end.memory.counted; each = end.memory.lines })
+  pub banks_left : (banks : List Bank) → banks ≡ ended.memory.lines → AreBanks setup u banks
+  banks_left banks same =
+      let Are : List Bank → Type 0 = λ bs. AreBanks setup u bs in
+      subst Are (sym same) (record { counted = end.memory.counted; each = end.memory.lines })
 
   -- the lines after the events are those of the state
   pub tail_left : (stop : Stop) (harts : List Hart) (digest : List ℕ) (tail : List TailLine) → stop ≡ ended.stop → harts ≡ ended.harts.items → digest ≡ sha256 (ram_bytes setup u)
