@@ -1,5 +1,5 @@
 -- What is left of a run that has ended.
-use Rattle.std.proofs.Common.{◌≡◌, ℕ, ◌≤◌, List, Option, Some, length, ap, sym, subst, ◌∙◌, arith}
+use Rattle.std.proofs.Common.{◌≡◌, ℕ, List, Option, Some, length, ap, sym, subst, ◌∙◌, arith}
 use Rattle.sha2.specs.Sha256.{sha256}
 use Rattle.flex_base.specs.Loaded.{Loaded}
 use Rattle.flex_base.specs.Rounds.{rounds, names_played}
@@ -28,16 +28,15 @@ use Rattle.flex_top.specs.Answer.{setup_of, outcome_with, outcome_of_run}
 use Rattle.flex_top.specs.Ended.{outcome_at}
 use Rattle.flex_top.specs.Ram.{AreBanks}
 use Rattle.flex_top.specs.Words.{Reading}
-use Rattle.flex_top.proofs.Merged.{logs_are}
 use Rattle.flex_top.proofs.SameStart.{outcome_same}
 use Rattle.flex_top.proofs.Writing.{outcome_is}
 
 module _ (plan : Plan) (setup : Setup) (u : Machine) (ended : Ended) (end : IsEnd setup plan u ended) where
   -- the logs are those of the split journal
-  pub logs_left : (logs : List Log) → setup.harts ≤ 32 → logs ≡ ended.logs.items → AreLogsOf (split (shown plan).engines setup.harts u.events) logs
-  logs_left logs few same =
+  pub logs_left : (logs : List Log) → logs ≡ ended.logs.items → AreLogsOf (split (shown plan).engines setup.harts u.events) logs
+  logs_left logs same =
       let Of : List Log → Type 0 = λ ls. AreLogsOf (split (shown plan).engines setup.harts u.events) ls in
-      subst Of (sym same) (logs_are setup.harts (split (shown plan).engines setup.harts u.events) ended.logs.items few end.logs)
+      subst Of (sym same) end.logs.parts
 
   -- the banks hold RAM
   pub banks_left : (banks : List Bank) → banks ≡ ended.memory.lines → AreBanks setup u banks

@@ -7,7 +7,6 @@ pub mod Told
 pub mod WordsLemmas
 pub mod Pages
 pub mod Ram
-pub mod Merged
 pub mod SameStart
 pub mod Ended
 pub mod Writing

@@ -1,5 +1,5 @@
 -- The console's bytes, the events and the lines after them are those of the state in which the run has ended.
-use Rattle.std.proofs.Common.{◌≡◌, ◌≤◌, ap, sym, subst, ◌∙◌, arith}
+use Rattle.std.proofs.Common.{◌≡◌, ap, sym, subst, ◌∙◌}
 use Rattle.std.specs.Prelude.{OnOk, OnErr}
 use Rattle.flex_base.specs.Setup.{Setup}
 use Rattle.flex_base.specs.Unsplit.{Machine}
@@ -20,16 +20,14 @@ use Rattle.flex_top.proofs.solo_command.leave_run.Goals as goal
 pub by_number-requires : goal.by_number-requires
 by_number-requires g c =
     let (plan, setup, u, of, end) = c.requires.ended in
-    let few : setup.harts ≤ 32 = omega (arith, ap (λ (s : Settings). s.harts) of, c.requires.limits.harts) in
-    record { logs = (_, logs_left plan setup u c.args.ended.now end c.deref-3.result.now few (c.deref-3.ensures.value ∙ ap (λ (e : Ended). e.logs.items) c.ended.view_is)) }
+    record { logs = (_, logs_left plan setup u c.args.ended.now end c.deref-3.result.now (c.deref-3.ensures.value ∙ ap (λ (e : Ended). e.logs.items) c.ended.view_is)) }
 
 left_is : (g : Over) (c : goal.After-leave g) (plan : Plan) (setup : Setup) (u : Machine) → settings_of setup ≡ c.args.command.now.settings → IsEnd setup plan u c.args.ended.now
     → outcome_with c.console.result.now c.args.command.now.trace.now (whole_text c.args.command.now.settings c.by_number.result c.lines.result.now) ≡ outcome_at plan setup u c.args.command.now.trace.now
 left_is g c plan setup u of end =
     let ended = c.args.ended.now in
-    let few : setup.harts ≤ 32 = omega (arith, ap (λ (s : Settings). s.harts) of, c.requires.limits.harts) in
     let is = c.ended.view_is in
-    let logs = logs_left plan setup u ended end c.deref-3.result.now few (c.deref-3.ensures.value ∙ ap (λ (e : Ended). e.logs.items) is) in
+    let logs = logs_left plan setup u ended end c.deref-3.result.now (c.deref-3.ensures.value ∙ ap (λ (e : Ended). e.logs.items) is) in
     let banks = banks_left plan setup u ended end c.deref.result.now (c.deref.ensures.value ∙ ap (λ (e : Ended). e.memory.lines) is) in
     let digested = c.ram_digest-digest.ensures setup u (ap (λ (s : Settings). s.ram) of) banks in
     let tail = tail_left plan setup u ended end _ c.deref-2.result.now c.ram_digest-digest.result c.fill.new.self (ap (λ (e : Ended). e.stop) is) (c.deref-2.ensures.value ∙ ap (λ (e : Ended). e.harts.items) is) digested c.fill.ensures in
