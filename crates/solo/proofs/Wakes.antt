@@ -57,9 +57,8 @@ module _ (setup : Setup) (u : Machine) (s : Solo) (h : ℕ) (c new : Context) (b
   parked = parked_by (want_of setup u h) (wants_read setup u p s at h c below read wants.Parked wanting)
 
   -- it was woken
-  pub woken_at : IsWoken s.bus.run (Some s.bus.history) (Some bus.history) c new → engine_at c.plan.engines class.Pulse ≡ c.engine
-      → Accesses setup u h (with_hart s h new bus)
-  woken_at w pulse =
+  pub woken_at : IsWoken s.bus.run (Some s.bus.history) (Some bus.history) c new → Accesses setup u h (with_hart s h new bus)
+  woken_at w =
       let answered = w.adds.history.answered in
       let Proper : Setup × List Done × ℕ → Type 0 = λ x. is_unwoken (hart_at (devices x.0.harts x.1) x.2).standing ≡ false in
       let proper = subst Proper (λ i. (at.memory.setup_is i, at.memory.devices i, there.number i)) answered.proper in
@@ -68,7 +67,7 @@ module _ (setup : Setup) (u : Machine) (s : Solo) (h : ℕ) (c new : Context) (b
       let made = access_made setup u p s h c new bus at below read there.number same on run_same (acc.Pulse false) w.reply w.adds w.engine next tt tt in
       let plan = engines_of s.plan in
       let in_engines : h < length p.engines = omega (arith, below, at.engines) in
-      let goes = sym pulse ∙ ap (λ (x : Plan). engine_at x.engines class.Pulse) there.plan_is in
+      let goes = sym w.here ∙ ap (λ (x : Plan). engine_at x.engines class.Pulse) there.plan_is in
       let is = grown_in plan p h c.engine c.engine (what.Acc (acc.Pulse false) w.reply) in_engines there.engine_is goes refl in
       let all = split_more plan setup.harts u.events (step setup u h).events (does h (what.Acc (acc.Pulse false) w.reply)) _ made.events is in
       let Of : Splitting → Type 0 = λ x. Holds setup (step setup u h) x (with_hart s h new bus) in
@@ -97,7 +96,8 @@ module _ (setup : Setup) (u : Machine) (s : Solo) (h : ℕ) (c new : Context) (b
         events = log ∙ there.events;
         engine_is = ap (λ (x : Context). x.engine) w.same ∙ there.engine_is;
       } in
-      let each = λ (k : ℕ) (other : Context) (below_k : k < setup.harts). elim (cases_eq k h) [
+      let each : (k : ℕ) (other : Context) → k < setup.harts → IsHart setup u next at.made k (holder_of (engines_of s.plan) p k) (get_or next.contexts k other) =
+      λ k other below_k. elim (cases_eq k h) [
         | inl one ↦
             let Is : ℕ × Context → Type 0 = λ x. IsHart setup u next at.made x.0 (holder_of (engines_of s.plan) p x.0) x.1 in
             let back = ap (λ j. get_or next.contexts j other) one ∙ get_or-set_same s.contexts h new other in_contexts in
