@@ -1,21 +1,20 @@
 -- A parked hart that is tried: it makes its pulse, or nothing happened.
-use Rattle.std.proofs.Common.{◌≡◌, ◌≢◌, ℕ, ◌<◌, true, false, List, [], length, get_or, set, Some, inl, inr, refl, ap, sym, subst, ◌∙◌, arith, length-set, get_or-set_same, get_or-set_other}
+use Rattle.std.proofs.Common.{◌≡◌, ℕ, ◌<◌, true, false, List, [], length, get_or, Some, inl, inr, refl, ap, sym, subst, ◌∙◌, arith, length-set, get_or-set_same, get_or-set_other}
 use Rattle.std.proofs.lemmas.Bool.{cases_eq}
 use Rattle.flex_base.specs.Setup.{Setup}
 use Rattle.flex_base.specs.FlatMemory.{Done}
 use Rattle.flex_base.specs.Devices.{hart_at, is_unwoken, devices}
 use Rattle.flex_base.specs.Following.{instruction_of}
 use Rattle.flex_base.specs.StoryTree.{Want, Asks, Ends, IsOver, IsParked}
-use Rattle.flex_base.specs.Unsplit.{Machine, want_of, is_woken_in, step, does}
+use Rattle.flex_base.specs.Unsplit.{Machine, want_of, step, does}
 use Rattle.flex_base.specs.declared.access.Access.TheVariants as acc
 use Rattle.flex_base.specs.declared.class.Class.TheVariants as class
-use Rattle.flex_base.specs.declared.event.Event.{Event}
 use Rattle.flex_base.specs.declared.event.What.TheVariants as what
 use Rattle.flex_base.specs.declared.hart.HartId.{HartId}
 use Rattle.flex_base.proofs.Machines.{next_woken, step_unwoken}
 use Rattle.flex_base.proofs.Turns.{turn_of-woken, turn_of-unwoken}
 use Rattle.flex_base.proofs.Standing.{woken_told}
-use Rattle.access_record.specs.Buses.{Run, ram_banks, events_of}
+use Rattle.access_record.specs.Buses.{Run, events_of}
 use Rattle.access_record.specs.Histories.{History}
 use Rattle.transplant_plan.specs.Planning.{engine_at}
 use Rattle.transplant_plan.specs.Split.{Splitting, holder_of}
@@ -23,15 +22,14 @@ use Rattle.transplant_plan.specs.declared.plan.Plan.{Plan}
 use Rattle.mem_banks.specs.Plain.{Plain}
 use Rattle.mem_banks.specs.End.{IsFounderOf}
 use Rattle.context.specs.declared.wants.Wants.TheVariants as wants
-use Rattle.context.specs.Contexts.{Context, IsOn, IsSame, IsWanting, IsWoken, IsUnwoken, events_in}
+use Rattle.context.specs.Contexts.{Context, IsOn, IsSame, IsWanting, IsWoken, IsUnwoken}
 use Rattle.context.specs.Obeying.{wants_of}
-use Rattle.solo.specs.Solo.{Solo, engines_of, done_at}
-use Rattle.solo.specs.Rising.{Rises}
+use Rattle.solo.specs.Solo.{Solo, engines_of}
 use Rattle.solo.specs.Standing.{IsMade, IsHart, Holds, IsAt, split_of}
 use Rattle.solo.specs.Playing.{Accesses, Rests}
 use Rattle.solo.proofs.Standing.{hart_read, wants_read}
 use Rattle.solo.proofs.Serving.{serves_own}
-use Rattle.solo.proofs.Stepping.{grown, with_hart}
+use Rattle.solo.proofs.Stepping.{with_hart}
 use Rattle.solo.proofs.Making.{grown_in, split_more}
 use Rattle.solo.proofs.Waking.{parked_woken, parked_unwoken}
 use Rattle.solo.proofs.Events.{some_history, access_made}

@@ -1,6 +1,5 @@
 -- By whether the devices have woken the hart.
-use Rattle.std.proofs.Common.{◌≡◌, ◌<◌, Bool, get_or, Some, ap, sym, subst, ◌∙◌, arith}
-use Rattle.flex_base.specs.Setup.{Setup}
+use Rattle.std.proofs.Common.{◌<◌, Bool, get_or, Some, ap, sym, subst, ◌∙◌, arith}
 use Rattle.context.specs.declared.wants.Wants.TheVariants as wants
 use Rattle.context.specs.Contexts.{Context, IsWanting, HasTried}
 use Rattle.solo.specs.Solo.{Solo}
@@ -31,8 +30,8 @@ returns-clause-after c = λ setup u at_first.
     elim c.if-wake.branch [
       | then-wake w ↦
           rw (w.result-is) (woken_at setup u _ c.args.h ctx c.wake.new.self c.wake.new.bus at below c.index_mut.ensures.value
-              c.wake.ensures.same c.wake.ensures.on c.wake.ensures.bus parked (subst Tried w.if-wake.true c.wake.ensures.one))
+          c.wake.ensures.same c.wake.ensures.on c.wake.ensures.bus parked (subst Tried w.if-wake.true c.wake.ensures.one))
       | else-wake w ↦
           rw (w.result-is) (unwoken_at setup u _ c.args.h ctx c.wake.new.self c.wake.new.bus at below c.index_mut.ensures.value
-              c.wake.ensures.same c.wake.ensures.on c.wake.ensures.bus parked (subst Tried w.if-wake.false c.wake.ensures.one))
+          c.wake.ensures.same c.wake.ensures.on c.wake.ensures.bus parked (subst Tried w.if-wake.false c.wake.ensures.one))
     ]
