@@ -1,7 +1,6 @@
 -- An event of a hart, as its context and the bus tell it.
-use Rattle.std.proofs.Common.{◌≡◌, ◌≢◌, ℕ, ◌+◌, ◌<◌, ◌≤◌, Bool, true, false, ◌==◌, if◌then◌else◌, List, [], ◌∷◌, ◌++◌, length, get_or, set, Option, inl, inr, refl, ap, sym, subst, ◌∙◌, arith, eq-eqb, append-nil, length-set, get_or-set_same, get_or-set_other}
+use Rattle.std.proofs.Common.{◌≡◌, ◌≢◌, ℕ, ◌+◌, ◌<◌, ◌≤◌, ◌==◌, if◌then◌else◌, List, [], ◌∷◌, ◌++◌, length, get_or, set, Option, inl, inr, refl, ap, sym, subst, ◌∙◌, arith, eq-eqb, append-nil, length-set, get_or-set_same, get_or-set_other}
 use Rattle.std.proofs.lemmas.Bool.{cases_eq, ne_eqb}
-use Rattle.std.proofs.lemmas.List.{set-get_or}
 use Rattle.std.proofs.lemmas.List.Elements.{filter-append}
 use Rattle.flex_base.specs.Setup.{Setup}
 use Rattle.flex_base.specs.Following.{instruction_of, instruction_then, first_instruction}
@@ -21,7 +20,7 @@ use Rattle.mem_banks.specs.Plain.{Plain}
 use Rattle.mem_banks.specs.End.{IsFounderOf}
 use Rattle.context.specs.Contexts.{Context, IsOn, IsSame, events_in}
 use Rattle.solo.specs.Solo.{Solo, engines_of, least_in}
-use Rattle.solo.specs.Rising.{Rises, numbered_from, of_hart}
+use Rattle.solo.specs.Rising.{Rises, of_hart}
 use Rattle.solo.specs.Standing.{IsReached, Serves, IsMade, IsHart, AreEnrolled, Holds}
 use Rattle.solo.proofs.Rising.{rises_push, numbered_more, harts_push}
 use Rattle.solo.proofs.Standing.{hart_read}
