@@ -1,2 +1,3 @@
 mod Packed
-mod Numbers
+mod Merging
+mod Rests

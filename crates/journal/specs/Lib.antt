@@ -1,3 +1,5 @@
 pub mod Log
 pub mod Packing
 pub mod Keeping
+pub mod Merged
+pub mod Rests
