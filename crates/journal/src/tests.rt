@@ -1,4 +1,5 @@
 ghost use Rattle.std.specs.Prelude.{◌≡◌, IfOk};
+ghost use Rattle.flex_base.specs.Journal.{event};
 ghost use Rattle.journal.specs.Merged.{AreLogsOf};
 
 use super::{HartLog, by_number};
@@ -74,7 +75,7 @@ fn a_log_gives_what_was_pushed(rt: HostRuntime) -> Result<(), Fail> {
 
 // An event of a hart.
 fn of_hart(hart: u8, number: u64) -> Event
-    ensures { (result.hart.0 ≡ hart) × (result.number ≡ number) }
+    ensures { result ≡ event number hart Engine.Pipe (What.Handover Engine.Host) }
 {
     Event {
         number,
