@@ -1,5 +1,5 @@
 -- What is left of the logs of a journal, and the next event.
-use Rattle.std.proofs.Common.{◌≡◌, ◌≢◌, ℕ, zero, suc, ◌+◌, ◌<◌, ◌≤◌, ◌%◌, ◌^◌, Bool, true, false, List, [], ◌∷◌, length, map, replicate, set, get_or, slice_index_or, inl, inr, refl, sym, ap, subst, ◌∙◌, arith}
+use Rattle.std.proofs.Common.{◌≡◌, ℕ, zero, suc, ◌+◌, ◌<◌, ◌≤◌, ◌%◌, ◌^◌, true, false, List, [], ◌∷◌, length, map, replicate, set, get_or, inl, inr, refl, sym, ap, subst, ◌∙◌, arith}
 use Rattle.std.specs.Prelude.{Option, None, Some}
 use Rattle.std.specs.Iterator.{YieldsFirst}
 use Rattle.std.specs.List.{All}
@@ -92,18 +92,14 @@ of_hart-past count hart (e ∷ es) past harts =
     let below : e.hart.0 < count = harts 0 e (omega arith) in
     of_hart-other hart e es (λ same. omega (arith, same, past, below)) ∙ of_hart-past count hart es past (λ k d in_it. harts (suc k) d (omega (arith, in_it)))
 
-get_or-empty : {X : Type 0} (f : X → List Event) (x : X) (n h : ℕ) → f x ≡ [] → get_or (map f (replicate n x)) h [] ≡ []
-get_or-empty f x zero h empty = refl
-get_or-empty f x (suc n) zero empty = empty
-get_or-empty f x (suc n) (suc h) empty = get_or-empty f x n h empty
+get_or-empty : (n h : ℕ) → get_or {A = List Event} (replicate n []) h [] ≡ []
+get_or-empty zero h = refl
+get_or-empty (suc n) zero = refl
+get_or-empty (suc n) (suc h) = get_or-empty n h
 
 -- before any log is read
-pub are_rests-none : (logs : List Log) (rest : Rest) → events_left rest ≡ [] → AreRests 0 logs (map events_left (replicate 32 rest))
-are_rests-none logs rest empty = record {
-  size = refl;
-  within = λ h other below. absurd (omega (arith, below));
-  past = λ h from. get_or-empty events_left rest 32 h empty;
-}
+pub are_rests-none : (logs : List Log) → AreRests 0 logs (replicate 32 [])
+are_rests-none logs = record { size = refl; within = λ h other below. absurd (omega (arith, below)); past = λ h from. get_or-empty 32 h }
 
 -- one log more
 pub are_rests-more : (n : ℕ) (logs : List Log) (rests : List Rest) (rest : Rest) (log : Log) → n < 32 → n < length logs → get_or logs n log ≡ log

@@ -1,5 +1,5 @@
 -- What is left of logs that are read by number.
-use Rattle.std.specs.Prelude.{◌≡◌, ℕ, ◌==◌, ◌<◌, ◌≤◌, ◌%◌, ◌^◌, Bool, true, false, if◌then◌else◌, nat_lt, List, [], ◌∷◌, get_or, slice_index_or, length}
+use Rattle.std.specs.Prelude.{◌≡◌, ℕ, ◌<◌, ◌≤◌, ◌%◌, ◌^◌, Bool, false, if◌then◌else◌, nat_lt, List, [], ◌∷◌, get_or, slice_index_or, length}
 use Rattle.std.specs.List.{All, flat_map, range_with_len}
 use Rattle.flex_base.specs.Journal.{numbers_of}
 use Rattle.flex_base.specs.declared.event.Event.{Event}

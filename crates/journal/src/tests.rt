@@ -1,6 +1,11 @@
-use super::HartLog;
+ghost use Rattle.std.specs.Prelude.{◌≡◌, IfOk};
+ghost use Rattle.flex_base.specs.Journal.{event};
+ghost use Rattle.journal.specs.Merged.{AreLogsOf};
+
+use super::{HartLog, by_number};
 use crate::kept::Kept;
 use flex_base::{Access, Class, EndPart, Engine, Event, HartId, Reply, What};
+use std::alloc::{AllocError, Global};
 use std::test::Fail;
 
 fn event(number: u64, what: What) -> Event {
@@ -65,5 +70,74 @@ fn a_log_gives_what_was_pushed(rt: HostRuntime) -> Result<(), Fail> {
     log.clear();
     assert_eq!(rt; log.room(), 65_541);
     assert_eq!(rt; log.events().next(), None);
+    Ok(())
+}
+
+// An event of a hart.
+fn of_hart(hart: u8, number: u64) -> Event
+    ensures { result ≡ event number hart Engine.Pipe (What.Handover Engine.Host) }
+{
+    Event {
+        number,
+        hart: HartId(hart),
+        engine: Engine::Pipe,
+        what: What::Handover(Engine::Host),
+    }
+}
+
+// A log of these events.
+fn log_of(alloc: Global, events: &[Event]) -> Result<HartLog, AllocError>
+    ensures { IfOk result (λ log. log.events ≡ events.now) }
+{
+    let mut log = HartLog::new(alloc, events.len() as u64)?;
+    for event in events {
+        log.push(*event);
+    }
+    Ok(log)
+}
+
+// Read by number these logs are this journal.
+fn is_read(logs: &[HartLog], journal: &[Event]) -> bool
+    requires { AreLogsOf journal.now logs.now }
+{
+    let mut read = by_number(logs);
+    for event in journal {
+        match read.next() {
+            Some(kept) => {
+                if kept.event() != *event {
+                    return false;
+                }
+            }
+            None => return false,
+        }
+    }
+    read.next().is_none()
+}
+
+// Of three logs the second is empty.
+#[test]
+fn logs_are_read_by_number(rt: HostRuntime) -> Result<(), Fail> {
+    let journal = [
+        of_hart(2, 0),
+        of_hart(2, 1),
+        of_hart(0, 2),
+        of_hart(2, 3),
+        of_hart(0, 4),
+    ];
+    let [first, second, third, fourth, fifth] = journal;
+    let logs = [
+        log_of(rt.alloc(), &[third, fifth])?,
+        log_of(rt.alloc(), &[])?,
+        log_of(rt.alloc(), &[first, second, fourth])?,
+    ];
+    assert!(rt; is_read(&logs, &journal));
+    Ok(())
+}
+
+#[test]
+fn one_log_is_read_by_number(rt: HostRuntime) -> Result<(), Fail> {
+    let journal = [of_hart(0, 0), of_hart(0, 1)];
+    let logs = [log_of(rt.alloc(), &journal)?];
+    assert!(rt; is_read(&logs, &journal));
     Ok(())
 }

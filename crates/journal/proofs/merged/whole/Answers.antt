@@ -1,9 +1,9 @@
-use Rattle.std.proofs.Common.{refl, ◌∙◌, sym, arith}
+use Rattle.std.proofs.Common.{◌∙◌, sym, arith}
 use Rattle.journal.proofs.Rests.{are_rests-more, are_rests-none}
 use Rattle.journal.proofs.merged.whole.Goals as goal
 
 pub loop-hart-init : goal.loop-hart-init
-loop-hart-init c = are_rests-none c.args.logs.now _ refl
+loop-hart-init c = are_rests-none c.args.logs.now
 
 pub loop-hart-preserved : goal.loop-hart-preserved
 loop-hart-preserved c =

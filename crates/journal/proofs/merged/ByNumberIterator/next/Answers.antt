@@ -1,6 +1,5 @@
 use Rattle.std.proofs.Common.{◌≡◌, ℕ, ◌+◌, ◌<◌, ◌%◌, ◌^◌, true, List, [], ◌∷◌, map, set, get_or, length, ◌∙◌, sym, ap, subst, arith, rules}
 use Rattle.std.specs.Prelude.{Some}
-use Rattle.std.specs.Iterator.{YieldsFirst}
 use Rattle.std.proofs.lemmas.List.{get_or-map, length-map, map-set}
 use Rattle.flex_base.specs.declared.event.Event.{Event}
 use Rattle.journal.specs.Rests.{IsByNumber, begins_with, events_left, merged}
