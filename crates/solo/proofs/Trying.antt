@@ -1,6 +1,6 @@
 -- What a step comes to, by what the context wants.
-use Rattle.std.proofs.Common.{◌≡◌, ℕ, ◌<◌, List, length, get_or, Option, Some, refl, ap, sym, subst, ◌∙◌, arith}
-use Rattle.std.proofs.lemmas.List.{get_or_default}
+use Rattle.std.proofs.Common.{◌≡◌, ℕ, ◌<◌, List, [], length, get_or, set, Option, Some, refl, ap, sym, subst, ◌∙◌, arith}
+use Rattle.std.proofs.lemmas.List.{get_or_default, set-get_or}
 use Rattle.flex_base.specs.Setup.{Setup}
 use Rattle.flex_base.specs.State.{State}
 use Rattle.flex_base.specs.StoryTree.{Want, Asks, Ends, IsOver, IsParked}
@@ -16,15 +16,17 @@ use Rattle.access_record.specs.Histories.{History}
 use Rattle.transplant_plan.specs.Planning.{engine_at}
 use Rattle.transplant_plan.specs.declared.plan.Plan.{Plan}
 use Rattle.mem_banks.specs.Plain.{Plain}
+use Rattle.mem_banks.specs.End.{IsFounderOf}
 use Rattle.context.specs.declared.wants.Wants.{Wants}
 use Rattle.context.specs.declared.wants.Wants.TheVariants as wants
 use Rattle.context.specs.Contexts.{Context, IsOn, IsSame, IsWanting, IsElsewhere, Moves, Goes, plan_of}
 use Rattle.context.specs.Obeying.{wants_of, IsFor}
 use Rattle.context.proofs.Keeping.{wants_one}
 use Rattle.solo.specs.Solo.{Solo}
-use Rattle.solo.specs.Standing.{IsAt}
+use Rattle.solo.specs.Standing.{IsMade, Holds, IsAt, split_of}
 use Rattle.solo.specs.Playing.{Accesses, Finishes, Rests}
 use Rattle.solo.proofs.Standing.{harts_are, wants_read}
+use Rattle.solo.proofs.Serving.{serves_own}
 use Rattle.solo.proofs.Stepping.{with_hart}
 use Rattle.solo.proofs.Events.{ask_tells, finish_tells, stays_at, moved_at}
 
@@ -53,6 +55,12 @@ same_context contexts h c other within read = get_or_default contexts h other c 
 -- two readings of one place
 pub same_read : (contexts : List Context) (h : ℕ) (c d : Context) → h < length contexts → c ≡ get_or contexts h c → d ≡ get_or contexts h d → c ≡ d
 same_read contexts h c d within first second = sym (same_context contexts h c d within first) ∙ sym second
+
+pub elsewhere_read : (contexts : List Context) (h : ℕ) (c : Context) (to : Engine) → c ≡ get_or contexts h c
+    → ((other : Context) → IsElsewhere to (get_or contexts h other)) → IsElsewhere to c
+elsewhere_read contexts h c to read elsewhere =
+    let Is : Context → Type 0 = λ x. IsElsewhere to x in
+    subst Is (sym read) (elsewhere c)
 
 -- A hart that was handed over to the engine of what it wants.
 
@@ -131,3 +139,41 @@ module _ (setup : Setup) (u : Machine) (s : Solo) (h : ℕ) (c : Context) (at : 
     pub moved_finished : Goes between.run (Some between.history) (Some bus.history) wants.Finish moved new → Finishes setup u h (with_hart s h new bus)
     moved_finished went = ended_at went.class (with_hart s h new bus) (wanting_first (wants.Finish went.class) went.wanting)
         (moved_at setup u s h c moved new between bus to wants.Finish at below read elsewhere.other same on run_same moves same' on' run_same' finish_tells went)
+
+  -- nothing
+  pub still_at : (new : Context) (bus : Plain) → new ≡ c → bus.run ≡ s.bus.run → bus.history ≡ s.bus.history → IsAt setup u (with_hart s h new bus)
+  still_at new bus same run_same history =
+      let p = split_of setup u s in
+      let next : Solo = record s { bus = bus } in
+      let Founds : Run → Type 0 = λ r. IsFounderOf r s.founder in
+      let Made : ℕ → Type 0 = λ n. IsMade setup.harts n p.events at.made in
+      let there : Holds setup u p next = record {
+        some = at.some;
+        few = at.few;
+        ends = at.ends;
+        reached = at.reached;
+        settings_is = at.settings_is;
+        halves = at.halves;
+        counted = at.counted;
+        engines = at.engines;
+        made = at.made;
+        are_made = subst Made (sym (ap (λ (x : History). x.least) history)) at.are_made;
+        each = λ k other below_k.
+            let was = at.each k other below_k in
+            let On : Run → Type 0 = λ r. IsOn r (get_or s.contexts k other) in
+            record {
+              on = subst On (sym run_same) was.on;
+              number = was.number;
+              plan_is = was.plan_is;
+              settings_are = was.settings_are;
+              instruction = was.instruction;
+              events = was.events;
+              engine_is = was.engine_is;
+            };
+        memory = serves_own setup u u s.bus bus at.memory run_same (ap (λ (x : History). length x.banks) history) refl refl
+            (λ bank. ap (λ (x : History). get_or x.banks bank []) history);
+        enrolment = record { founder_is = subst Founds (sym run_same) at.enrolment.founder_is; enrolled = at.enrolment.enrolled };
+      } in
+      let kept : set s.contexts h new ≡ s.contexts = ap (set s.contexts h) (same ∙ read) ∙ set-get_or s.contexts h c in
+      let At : List Context → Type 0 = λ cs. Holds setup u p (record next { contexts = cs }) in
+      subst At (sym kept) there
