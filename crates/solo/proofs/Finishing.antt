@@ -40,6 +40,7 @@ use Rattle.solo.specs.End.{AreLogsOf, HoldsRam, IsMemoryAt, IsEnd}
 use Rattle.solo.proofs.Flat.{byte_of_part}
 use Rattle.solo.proofs.Merging.{merged_parts}
 use Rattle.solo.proofs.Ending.{AreBelow, ascends_below, numbers_known}
+use Rattle.solo.proofs.Taking.{AllHave}
 use Rattle.solo.proofs.Settling.{passes_of, AreNumbered, log_at, each_pass, all_passes}
 
 some_context : (contexts : List Context) → 0 < length contexts → Context
@@ -51,6 +52,7 @@ unfolding AreRecord
 record_of limits n ps ds closed = closed
 
 module _ (setup : Setup) (u : Machine) (s : Solo) (at : IsAt setup u s) where
+  -- the plan's split of what the machine did
   abbrev journal : List Event
   journal = split (engines_of s.plan) setup.harts u.events
 
@@ -58,6 +60,9 @@ module _ (setup : Setup) (u : Machine) (s : Solo) (at : IsAt setup u s) where
   legal =
       let Legal : Machine → Type 0 = λ m. IsLegal setup (split (engines_of s.plan) setup.harts m.events) in
       subst Legal (sym at.reached.is) (split_legal setup (engines_of s.plan) at.reached.order)
+
+  any : Context
+  any = some_context s.contexts (omega (arith, at.some, at.counted))
 
   within : (h : ℕ) → h < setup.harts → h < length s.contexts
   within h below = omega (arith, below, at.counted)
@@ -68,25 +73,23 @@ module _ (setup : Setup) (u : Machine) (s : Solo) (at : IsAt setup u s) where
       (at.each k other (omega (arith, below, at.counted))).number ∙ from
 
   -- the log of a hart's pass has its part
-  log_part : (n : ℕ) (h : ℕ) (other : Context) → h < setup.harts → events_of (logs_of (passes_of s.contexts) h) ≡ of_hart h at.made
-  log_part n h other below =
+  log_part : (h : ℕ) → h < setup.harts → events_of (logs_of (passes_of s.contexts) h) ≡ of_hart h at.made
+  log_part h below =
       let from : h ≡ 0 + h = omega arith in
-      ap (λ k. events_of (logs_of (passes_of s.contexts) k)) from ∙ ap events_of (log_at 0 h s.contexts other numbered (within h below)) ∙ (at.each h other below).events
+      ap (λ k. events_of (logs_of (passes_of s.contexts) k)) from ∙ ap events_of (log_at 0 h s.contexts any numbered (within h below)) ∙ (at.each h any below).events
 
   module _ (limits : Limits) (n : ℕ) (ds : List PassOfBank) (closed : AreRecord limits n (passes_of s.contexts) ds) (harts : limits.harts ≡ setup.harts) where
     abbrev closes : IsRecord limits n (logs_of (passes_of s.contexts)) (bank_logs_of ds)
     closes = record_of limits n (passes_of s.contexts) ds closed
 
-    any : Context
-    any = some_context s.contexts (omega (arith, at.some, at.counted))
-
+    -- the record tells how many events there are, and so the numbers
     known : (numbered_from 0 at.made ≡ at.made) × Rises 0 (length at.made) at.made
     known =
         let below = λ (h : ℕ) (within_h : h < setup.harts).
         let Below : List Event → Type 0 = λ es. AreBelow n es in
-        subst Below (log_part n h any within_h) (ascends_below 0 n (logs_of (passes_of s.contexts) h) (closes.hart_numbers h)) in
+        subst Below (log_part h within_h) (ascends_below 0 n (logs_of (passes_of s.contexts) h) (closes.hart_numbers h)) in
         let lengths = sum_below-same setup.harts (λ h. length (logs_of (passes_of s.contexts) h)) (λ h. length (of_hart h at.made)) (λ h within_h.
-        sym (length-map (logs_of (passes_of s.contexts) h) (λ (e : LogEntry). e.event)) ∙ ap (λ (es : List Event). length es) (log_part n h any within_h)) in
+        sym (length-map (logs_of (passes_of s.contexts) h) (λ (e : LogEntry). e.event)) ∙ ap (λ (es : List Event). length es) (log_part h within_h)) in
         let count = closes.count ∙ ap (λ m. sum_below m (λ h. length (logs_of (passes_of s.contexts) h))) harts ∙ lengths in
         numbers_known setup.harts _ n at.made at.are_made.rises at.are_made.harts_are below count
 
@@ -94,7 +97,7 @@ module _ (setup : Setup) (u : Machine) (s : Solo) (at : IsAt setup u s) where
     journal_made = sym known.0 ∙ at.are_made.journal_is
 
     -- the logs of the contexts are those of the journal
-    pub logs_end : ((h : ℕ) (other : Context) → h < length s.contexts → IsContext (get_or s.contexts h other))
+    pub logs_end : AllHave IsContext s.contexts
         → AreLogsOf setup.harts journal (map (λ (c : Context). c.log) s.contexts)
     logs_end are =
         let logs = map (λ (c : Context). c.log) s.contexts in
@@ -108,11 +111,10 @@ module _ (setup : Setup) (u : Machine) (s : Solo) (at : IsAt setup u s) where
         subst Of journal_made (merged_parts setup.harts at.made logs known.1 at.are_made.harts_are numbers count each)
 
   -- the harts are where the machine's are
-  pub harts_end : ((h : ℕ) (other : Context) → h < length s.contexts → IsContext (get_or s.contexts h other))
+  pub harts_end : AllHave IsContext s.contexts
       → (h : ℕ) (other : Hart) → h < setup.harts → StandsFor (get_or (map (λ (c : Context). c.hart) s.contexts) h other) (instruction_at u h).state
   harts_end are h other below =
-      let c = get_or s.contexts h (some_context s.contexts (omega (arith, at.some, at.counted))) in
-      let any = some_context s.contexts (omega (arith, at.some, at.counted)) in
+      let c = get_or s.contexts h any in
       let is = get_or-map (λ (c : Context). c.hart) s.contexts h any other (within h below) in
       let there = at.each h any below in
       let Of : Setup → Type 0 = λ x. context.IsRunOf c.entry c.settings x in
@@ -164,7 +166,7 @@ module _ (setup : Setup) (u : Machine) (s : Solo) (at : IsAt setup u s) (memory 
         of_run = of;
         founder_is = at.enrolment.founder_is;
         ids = subst Ids (sym are) (all_passes (λ (p : PassOfHart). p.id ≡ s.bus.run.book.id) s.contexts (λ k other below.
-        (at.each k other (omega (arith, below, at.counted))).on.book));
+            (at.each k other (omega (arith, below, at.counted))).on.book));
         harts = subst Each (sym are) (each_pass setup.harts s.founder.harts s.contexts at.enrolment.enrolled at.counted (numbered setup u s at));
       }
 
@@ -199,7 +201,7 @@ module _ (setup : Setup) (u : Machine) (s : Solo) (at : IsAt setup u s) (memory 
 
 -- what is left is the end of the run
 pub is_end : (setup : Setup) (u : Machine) (s : Solo) (plan : Plan) (n : ℕ) (passes : List PassOfHart) (ds : List PassOfBank) (ended : Ended) → IsAt setup u s → s.plan ≡ plan
-    → ((h : ℕ) (other : Context) → h < length s.contexts → IsContext (get_or s.contexts h other))
+    → AllHave IsContext s.contexts
     → ended.harts.items ≡ map (λ (c : Context). c.hart) s.contexts → ended.logs.items ≡ map (λ (c : Context). c.log) s.contexts
     → passes ≡ passes_of s.contexts → AreRecord s.bus.run.book.limits n passes ds
     → device_stop setup.harts u.devices ≡ Some ended.stop → IsMemoryAt setup u ended.memory → IsEnd setup plan u ended
