@@ -1,14 +1,13 @@
 -- The end of a run: the logs, whose numbers are now known, and the memory.
-use Rattle.std.proofs.Common.{◌≡◌, ◌≢◌, ℕ, ◌+◌, ◌<◌, ◌≤◌, zero, suc, Bool, true, false, ◌==◌, if◌then◌else◌, List, [], ◌∷◌, ◌++◌, length, map, get_or, inl, inr, refl, ap, sym, subst, ◌∙◌, arith, eq-eqb}
-use Rattle.std.proofs.lemmas.Bool.{cases_eq, ne_eqb}
-use Rattle.flex_base.specs.Setup.{Setup}
+use Rattle.std.proofs.Common.{◌≡◌, ℕ, ◌+◌, ◌<◌, ◌≤◌, suc, Bool, true, false, ◌==◌, if◌then◌else◌, List, [], ◌∷◌, length, refl, ap, sym, subst, ◌∙◌, arith, eq-eqb}
+use Rattle.std.proofs.lemmas.Bool.{ne_eqb}
 use Rattle.flex_base.specs.declared.event.Event.{Event}
 use Rattle.access_record.specs.declared.entry.LogEntry.{LogEntry}
 use Rattle.access_record.specs.Logs.{Ascends, sum_below}
 use Rattle.access_record.specs.Buses.{events_of}
 use Rattle.access_record.proofs.Totals.{sum_below-same, sum_below-put, sum_below-none}
 use Rattle.solo.specs.Rising.{Rises, numbered_from, AreOfHarts, of_hart}
-use Rattle.solo.proofs.Rising.{rises_few, rises_numbered}
+use Rattle.solo.proofs.Rising.{rises_numbered}
 use Rattle.solo.proofs.Merging.{of_hart-cons, of_hart-none}
 
 -- Numbers below the count of the record.

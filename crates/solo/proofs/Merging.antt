@@ -1,8 +1,8 @@
 -- The merge of the harts' parts of a journal is the journal.
-use Rattle.std.proofs.Common.{◌≡◌, ◌≢◌, ℕ, ◌+◌, ◌<◌, ◌≤◌, zero, suc, Bool, true, false, ◌==◌, if◌then◌else◌, List, [], ◌∷◌, ◌++◌, length, get_or, inl, inr, refl, ap, sym, subst, ◌∙◌, arith, eq-eqb}
-use Rattle.std.specs.List.{filter, flat_map, range_with_len}
+use Rattle.std.proofs.Common.{◌≡◌, ℕ, ◌+◌, ◌<◌, ◌≤◌, zero, suc, Bool, true, false, ◌==◌, if◌then◌else◌, List, [], ◌∷◌, ◌++◌, length, get_or, inl, inr, refl, ap, sym, subst, ◌∙◌, arith, eq-eqb}
+use Rattle.std.specs.List.{All, filter, flat_map, range_with_len}
 use Rattle.std.proofs.lemmas.Bool.{cases_eq, ne_eqb}
-use Rattle.std.proofs.lemmas.List.Elements.{filter-append}
+use Rattle.std.proofs.lemmas.List.Elements.{All-cons, All-nil, filter-append}
 use Rattle.flex_base.specs.Merging.{has_number, merge}
 use Rattle.flex_base.specs.Journal.{numbers_of}
 use Rattle.flex_base.specs.declared.event.Event.{Event}
@@ -98,6 +98,10 @@ part_none k h low high (e ∷ events) below rises =
     ∙ part_drops k e (of_hart h events) (e.hart.0 == h) (ne_eqb e.number k (λ same. omega (arith, same, below, rises.0)))
     ∙ part_none k h (suc e.number) high events (omega (arith, below, rises.0)) rises.1
 
+all_of_harts : (harts : ℕ) (events : List Event) → AreOfHarts harts events → All (λ (e : Event). e.hart.0 < harts) events
+all_of_harts harts [] are = All-nil (λ (e : Event). e.hart.0 < harts)
+all_of_harts harts (e ∷ events) are = All-cons (λ (x : Event). x.hart.0 < harts) e events are.0 (all_of_harts harts events are.1)
+
 abbrev only : Event → ℕ → List Event
 only e h = if e.hart.0 == h then e ∷ [] else []
 
@@ -168,5 +172,5 @@ merged_parts harts journal logs rises are numbers count each =
           ∙ one_part k harts 0 n journal rises are)
           ∙ by_number 0 journal (subst From zero_on rises);
       numbers = numbers;
-      harts_are = are;
+      harts_are = all_of_harts harts journal are;
     }

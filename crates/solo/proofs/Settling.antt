@@ -1,12 +1,11 @@
 -- The passes of all contexts close the record.
-use Rattle.std.proofs.Common.{◌≡◌, ℕ, ◌+◌, ◌<◌, ◌≤◌, zero, suc, Bool, true, false, ◌==◌, if◌then◌else◌, List, [], ◌∷◌, ◌++◌, length, map, get_or, refl, ap, sym, subst, ◌∙◌, arith, eq-eqb}
+use Rattle.std.proofs.Common.{◌≡◌, ℕ, ◌+◌, ◌<◌, zero, suc, ◌==◌, if◌then◌else◌, List, [], ◌∷◌, length, map, get_or, refl, ap, sym, ◌∙◌, arith, eq-eqb}
 use Rattle.std.specs.List.{All, range_with_len}
 use Rattle.std.proofs.lemmas.Bool.{ne_eqb}
 use Rattle.std.proofs.lemmas.List.Elements.{All-cons, All-nil}
 use Rattle.flex_base.proofs.Orders.{range_with_len_push}
-use Rattle.access_record.specs.declared.entry.LogEntry.{LogEntry}
-use Rattle.access_record.specs.Rule.{total, one_if, count_of, occurrences}
-use Rattle.access_record.specs.Passes.{PassOfHart, RecordIdentity, EachHasPass, logs_of}
+use Rattle.access_record.specs.Rule.{one_if, count_of, occurrences}
+use Rattle.access_record.specs.Passes.{PassOfHart, EachHasPass, logs_of}
 use Rattle.access_record.proofs.Totals.{total-append}
 use Rattle.mem_banks.specs.Plain.{numbers_below}
 use Rattle.context.specs.Contexts.{Context}
