@@ -1,33 +1,30 @@
 -- What a step comes to, by what the context wants.
-use Rattle.std.proofs.Common.{◌≡◌, ℕ, ◌<◌, List, [], length, get_or, set, Option, Some, refl, ap, sym, subst, ◌∙◌, arith, get_or-set_same}
-use Rattle.std.proofs.lemmas.List.{set-get_or}
+use Rattle.std.proofs.Common.{◌≡◌, ℕ, ◌<◌, length, get_or, set, Option, Some, refl, ap, sym, subst, ◌∙◌, arith, get_or-set_same}
 use Rattle.flex_base.specs.Setup.{Setup}
 use Rattle.flex_base.specs.State.{State}
 use Rattle.flex_base.specs.StoryTree.{Want, Asks, Ends, IsOver, IsParked}
 use Rattle.flex_base.specs.Unsplit.{Machine, want_of, step}
 use Rattle.flex_base.specs.declared.access.Access.{Access}
 use Rattle.flex_base.specs.declared.class.Class.{Class}
+use Rattle.flex_base.specs.declared.engine.Engine.{Engine}
 use Rattle.flex_base.specs.declared.event.EndPart.{EndPart}
 use Rattle.flex_base.proofs.Machines.{step_over}
 use Rattle.flex_base.proofs.Turns.{turn_of-asks, turn_of-ends, turn_of-over}
-use Rattle.flex_base.specs.declared.engine.Engine.{Engine}
 use Rattle.access_record.specs.Buses.{Run}
 use Rattle.access_record.specs.Histories.{History}
 use Rattle.transplant_plan.specs.Planning.{engine_at}
 use Rattle.transplant_plan.specs.declared.plan.Plan.{Plan}
 use Rattle.mem_banks.specs.Plain.{Plain}
-use Rattle.mem_banks.specs.End.{IsFounderOf}
 use Rattle.context.specs.declared.wants.Wants.{Wants}
 use Rattle.context.specs.declared.wants.Wants.TheVariants as wants
-use Rattle.context.specs.Contexts.{Context, IsOn, IsSame, IsWanting, IsElsewhere, Moves, Goes, Stays, plan_of}
+use Rattle.context.specs.Contexts.{Context, IsOn, IsSame, IsWanting, IsElsewhere, Moves, Goes, Stays, events_in, plan_of}
 use Rattle.context.specs.Obeying.{wants_of, IsFor}
 use Rattle.context.proofs.Keeping.{wants_one}
 use Rattle.solo.specs.Solo.{Solo}
-use Rattle.solo.specs.Standing.{IsMade, Holds, IsAt, split_of}
+use Rattle.solo.specs.Standing.{IsAt}
 use Rattle.solo.specs.Playing.{Accesses, Finishes, Rests}
 use Rattle.solo.proofs.Standing.{harts_are, wants_read}
-use Rattle.solo.proofs.Serving.{serves_own}
-use Rattle.solo.proofs.Stepping.{with_hart}
+use Rattle.solo.proofs.Stepping.{with_hart, holds_still}
 use Rattle.solo.proofs.Events.{some_history, ask_tells, finish_tells, stays_at, moved_at}
 
 asks_by : (w : Want) (class : Class) → wants_of w ≡ wants.Ask class → (access : Access) × (w ≡ Asks access)
@@ -132,44 +129,11 @@ module _ (setup : Setup) (u : Machine) (now s : Solo) (h : ℕ) (c : Context) (v
         (moved_at setup u s h c moved new between bus to wants.Finish at below read elsewhere.other same on run_same moves same' on' run_same' finish_tells went)
 
   -- nothing
-  module _ (new : Context) (bus : Plain) (run_same : bus.run ≡ s.bus.run) (stays : Stays (Some s.bus.history) (Some bus.history) c new) where
+  module _ (new : Context) (bus : Plain) (same : IsSame c new) (on : IsOn s.bus.run new) (run_same : bus.run ≡ s.bus.run)
+      (stays : Stays (Some s.bus.history) (Some bus.history) c new) where
     pub still_at : IsAt setup u (with_hart s h new bus)
-    still_at =
-        let history = some_history bus.history s.bus.history stays.stays in
-        let p = split_of setup u s in
-        let next : Solo = record s { bus = bus } in
-        let Founds : Run → Type 0 = λ r. IsFounderOf r s.founder in
-        let Made : ℕ → Type 0 = λ n. IsMade setup.harts n p.events at.made in
-        let there : Holds setup u p next = record {
-          some = at.some;
-          few = at.few;
-          ends = at.ends;
-          reached = at.reached;
-          settings_is = at.settings_is;
-          halves = at.halves;
-          counted = at.counted;
-          engines = at.engines;
-          made = at.made;
-          are_made = subst Made (sym (ap (λ (x : History). x.least) history)) at.are_made;
-          each = λ k other below_k.
-              let was = at.each k other below_k in
-              let On : Run → Type 0 = λ r. IsOn r (get_or s.contexts k other) in
-              record {
-                on = subst On (sym run_same) was.on;
-                number = was.number;
-                plan_is = was.plan_is;
-                settings_are = was.settings_are;
-                instruction = was.instruction;
-                events = was.events;
-                engine_is = was.engine_is;
-              };
-          memory = serves_own setup u u s.bus bus at.memory run_same (ap (λ (x : History). length x.banks) history) refl refl
-              (λ bank. ap (λ (x : History). get_or x.banks bank []) history);
-          enrolment = record { founder_is = subst Founds (sym run_same) at.enrolment.founder_is; enrolled = at.enrolment.enrolled };
-        } in
-        let kept : set s.contexts h new ≡ s.contexts = ap (set s.contexts h) (stays.same ∙ read) ∙ set-get_or s.contexts h c in
-        let At : List Context → Type 0 = λ cs. Holds setup u p (record next { contexts = cs }) in
-        subst At (sym kept) there
+    still_at = holds_still setup u _ s h c new bus at below read same (ap events_in stays.same) (ap (λ (x : Context). x.engine) stays.same) on run_same
+        (some_history bus.history s.bus.history stays.stays)
 
     pub parked_still : IsWanting c wants.Parked → (other : Context) → IsWanting (get_or (set s.contexts h new) h other) wants.Parked
     parked_still wanting other =
