@@ -41,11 +41,13 @@ use Rattle.access_record.specs.Passes.{PassOfHart}
 use Rattle.access_record.specs.Buses.{Run, NamesPlace, IsGiven, events_of, waits, engine_of, Extends, HasLooked}
 use Rattle.access_record.specs.Histories.{History, InHistory}
 use Rattle.access_record.proofs.Extending.{events_of-push, extends-places}
+use Rattle.transplant_plan.specs.Planning.{engine_at}
+use Rattle.transplant_plan.specs.declared.plan.Plan.{Plan}
 use Rattle.context.specs.declared.wants.Wants.{Wants}
 use Rattle.context.specs.declared.wants.Wants.TheVariants as wants
 use Rattle.context.specs.Obeying.{wants_of, IsFor, engine_wanted, moves, ObeysSoFar}
 use Rattle.context.specs.Fewness.{plain_count, IsFew}
-use Rattle.context.specs.Contexts.{Context, context_of, plan_of, layout_of, IsRunOf, events_in, instruction_at, wants_in, IsWanting, IsWantedIn, IsAsking, IsEnding, StandsIn, IsContext, IsOn, Steps, Moves, IsWoken}
+use Rattle.context.specs.Contexts.{Context, context_of, plan_of, layout_of, IsRunOf, events_in, instruction_at, wants_in, IsWanting, IsWantedIn, IsAsking, IsEnding, StandsIn, IsContext, IsOn, IsSame, Steps, Moves, IsWoken, IsElsewhere}
 use Rattle.context.proofs.Fewness.{few_access, few_end}
 use Rattle.context.proofs.Obeying.{moves-push, plain_count-push, obeys_event, obeys_handover, obeys_length}
 
@@ -383,6 +385,7 @@ steps_access run before after c progress pass log access reply bank number of as
   happened = what.Acc access reply;
   adds = record { bank = bank; number = number; noted = gains.extends; history = history };
   may = (ap next_access (asking.asks run.setup of), form);
+  placed = asking.placed run.setup of;
   plain = refl;
   engine = refl;
   left = omega arith;
@@ -399,11 +402,34 @@ pub makes_handover : (c : Context) (pass : PassOfHart) (log : Log) (to : Engine)
 makes_handover c pass log to bank number setup context of wanted_in other gains =
     after_handover c pass log to bank number context (has_room c setup context of) gains wanted_in other (not_waiting c setup to context of wanted_in)
 
+pub moves_to : (run : Run) (before after : Option History) (c k : Context) (pass : PassOfHart) (log : Log) (to : Engine) (bank : Option ℕ) (number : ℕ)
+    → c ≡ k → IsContext c → Gains c pass log (what.Handover to) bank number → InHistory run before c.pass.hart.0 (what.Handover to) number after
+    → Moves run before after to k (next c c.hart c.progress pass log to c.left)
+moves_to run before after c k pass log to bank number is context gains history =
+    let wants_still : (w : Wants) → IsWanting c w → IsWanting (next c c.hart c.progress pass log to c.left) w = λ w wanting setup of.
+    ap (λ (i : Instruction). wants_of (wanted setup i)) (leads c c.hart c.progress pass log to c.left (what.Handover to) bank number context gains setup of)
+    ∙ wanting setup of in
+    let moves : Moves run before after to c (next c c.hart c.progress pass log to c.left) = record {
+      adds = record { bank = bank; number = number; noted = gains.extends; history = history };
+      engine = refl;
+      left = refl;
+      wants = wants_still;
+    } in
+    subst (λ (x : Context). Moves run before after to x (next c c.hart c.progress pass log to c.left)) is moves
+
+-- then it wants an event of the engine that it is in
+pub wanted_moved : (run : Run) (before after : Option History) (to : Engine) (old new : Context) → Moves run before after to old new → IsSame old new
+    → IsWantedIn old to → IsWantedIn new new.engine
+wanted_moved run before after to old new moved same w =
+    let For : Plan × Engine → Type 0 = λ p. IsFor (λ k. engine_at p.0.engines k) w.0 p.1 in
+    let there : IsFor (plan_of new) w.0 new.engine = subst For (λ i. (sym same.plan i, sym moved.engine i)) w.2 in
+    (w.0, moved.wants w.0 w.1, there)
+
 -- An end.
 
 -- what the end leads to, in each run in which the hart stands for an instruction that comes to it
-abbrev pub EndsSo : Context → Progress → Layout → EndPart → Hart → Type 0
-EndsSo c progress layout part hart = (setup : Setup) (i : Instruction) (other : EndPart) (after : State)
+abbrev pub EndsSo : Context → Layout → EndPart → Hart → Type 0
+EndsSo c layout part hart = (setup : Setup) (i : Instruction) (other : EndPart) (after : State)
     → IsIn setup i c.hart c.progress layout c.settings.budget → story.IsEnding setup i other after → EndsWith setup (story.want_in setup i) part hart
 
 pub ending_in : (c : Context) (setup : Setup) (ending : IsEnding c) → IsRunOf c.entry c.settings setup → IsAtEnd (wanted setup (instruction_at setup c))
@@ -414,46 +440,60 @@ finish_is class w part after is ends =
     let told : need.Finish class ≡ need.Finish part.class = is ∙ ap need_of ends in
     cc
 
+-- the hart at the beginning of its next instruction is led to this progress
+pub record LeadsTo (hart : Hart) (layout : Layout) (budget : ℕ) (progress : Progress) : Type 0 where
+  pub first : Progress
+  pub begins : first ≡ begun
+  pub same : (setup : Setup) (i : Instruction) → IsIn setup i hart first layout budget → IsIn setup i hart progress layout budget
+
+pub leads_to : (hart : Hart) (layout : Layout) (budget : ℕ) (first progress : Progress) → first ≡ begun
+    → ((setup : Setup) (i : Instruction) → IsIn setup i hart first layout budget → IsIn setup i hart progress layout budget)
+    → LeadsTo hart layout budget progress
+leads_to hart layout budget first progress begins same = record { first = first; begins = begins; same = same }
+
 has_ended : (c : Context) (hart : Hart) (progress : Progress) (part : EndPart) (setup : Setup) (layout : Layout) → IsContext c → (ending : IsEnding c)
-    → layout ≡ layout_of c.settings → EndsSo c progress layout part hart → hart.regs.ends ≡ c.hart.regs.ends + 1 → progress ≡ begun
-    → IsRunOf c.entry c.settings setup → HasEnded setup c part hart progress
-has_ended c hart progress part setup layout context ending same so count begins of =
+    → layout ≡ layout_of c.settings → EndsSo c layout part hart → hart.regs.ends ≡ c.hart.regs.ends + 1
+    → LeadsTo hart layout c.settings.budget progress → IsRunOf c.entry c.settings setup → HasEnded setup c part hart progress
+has_ended c hart progress part setup layout context ending same so count leads_on of =
     let i = instruction_at setup c in
     let stands = (context.stands setup of).at in
     let end = ending_in c setup ending of in
     let made = so setup i end.part end.after (in_run c layout setup context same of) end.ends in
     let unspent = ends_unspent setup i.state i.replies part made.after made.ends in
-    let at : IsIn setup (instruction_from made.after) hart begun (layout_of c.settings) c.settings.budget = record {
+    let first : IsIn setup (instruction_from made.after) hart begun (layout_of c.settings) c.settings.budget = record {
       of = stands.of;
       stands = made.stands;
       fit = made.fit;
       reached = refl;
       sound = record { stage = tt; found = are_none begun.found refl };
     } in
+    let First : Progress × Layout → Type 0 = λ p. IsIn setup (instruction_from made.after) hart p.0 p.1 c.settings.budget in
+    let Now : Layout → Type 0 = λ l. IsIn setup (instruction_from made.after) hart progress l c.settings.budget in
+    let led = leads_on.same setup (instruction_from made.after) (subst First (λ k. (sym leads_on.begins k, sym same k)) first) in
     record {
       after = made.after;
       ends = made.ends;
       unspent = omega (arith, unspent, stands.fit.within);
       more = omega (arith, made.stands.regs.ends, stands.stands.regs.ends, count);
-      at = subst (λ (p : Progress). IsIn setup (instruction_from made.after) hart p (layout_of c.settings) c.settings.budget) (sym begins) at;
+      at = subst Now same led;
     }
 
 pub makes_end : (c : Context) (hart : Hart) (progress : Progress) (pass : PassOfHart) (log : Log) (left : ℕ) (part : EndPart) (bank : Option ℕ) (number : ℕ)
     (setup : Setup) (layout : Layout) → IsContext c → IsRunOf c.entry c.settings setup → IsEnding c → Gains c pass log (what.End part) bank number
-    → layout ≡ layout_of c.settings → EndsSo c progress layout part hart → hart.regs.ends ≡ c.hart.regs.ends + 1 → progress ≡ begun → left + 1 ≡ c.left
-    → IsContext (next c hart progress pass log c.engine left)
-makes_end c hart progress pass log left part bank number setup layout context of ending gains same so count begins less =
+    → layout ≡ layout_of c.settings → EndsSo c layout part hart → hart.regs.ends ≡ c.hart.regs.ends + 1
+    → LeadsTo hart layout c.settings.budget progress → left + 1 ≡ c.left → IsContext (next c hart progress pass log c.engine left)
+makes_end c hart progress pass log left part bank number setup layout context of ending gains same so count leads_on less =
     let end = ending_in c setup ending of in
-    let ended = has_ended c hart progress part setup layout context ending same so count begins of in
+    let ended = has_ended c hart progress part setup layout context ending same so count leads_on of in
     let class_is : part.class ≡ ending.class = finish_is ending.class (wanted setup (instruction_at setup c)) part ended.after (ending.ends setup of) ended.ends in
     let awake = ends-waiting setup c.pass.hart.0 (events_in c) end.part end.after (context.stands setup of).follows end.ends in
     after_end c hart progress pass log left part bank number context (has_room c setup context of) gains (ap (plan_of c) class_is ∙ ending.class_is) awake less count
-    (λ one its. has_ended c hart progress part one layout context ending same so count begins its)
+    (λ one its. has_ended c hart progress part one layout context ending same so count leads_on its)
 
 pub steps_end : (run : Run) (before after : Option History) (c : Context) (hart : Hart) (progress : Progress) (pass : PassOfHart) (log : Log) (left : ℕ)
     (part : EndPart) (bank : Option ℕ) (number : ℕ) (layout : Layout) → IsContext c → IsRunOf c.entry c.settings run.setup → IsEnding c
     → Gains c pass log (what.End part) bank number → InHistory run before c.pass.hart.0 (what.End part) number after
-    → layout ≡ layout_of c.settings → EndsSo c progress layout part hart → left + 1 ≡ c.left
+    → layout ≡ layout_of c.settings → EndsSo c layout part hart → left + 1 ≡ c.left
     → Steps run before after c (next c hart progress pass log c.engine left)
 steps_end run before after c hart progress pass log left part bank number layout context of ending gains history same so less =
     let setup = run.setup in
@@ -463,6 +503,7 @@ steps_end run before after c hart progress pass log left part bank number layout
       happened = what.End part;
       adds = record { bank = bank; number = number; noted = gains.extends; history = history };
       may = (made.after, made.ends);
+      placed = tt;
       plain = refl;
       engine = refl;
       left = less;
@@ -483,15 +524,16 @@ makes_pulse c progress pass log reply bank number setup layout context of parked
     (λ one its. ap next_access (is_parked c one its parked)) (λ one its is. value) (λ w. refl)
 
 pub is_woken : (run : Run) (before after : Option History) (c k : Context) (progress : Progress) (pass : PassOfHart) (log : Log) (reply : Reply)
-    (bank : Option ℕ) (number : ℕ) → c ≡ k → HasForm (acc.Pulse false) reply → reply.value ≡ 0
+    (bank : Option ℕ) (number : ℕ) → c ≡ k → IsContext c → waits c.pass ≡ true → HasForm (acc.Pulse false) reply → reply.value ≡ 0
     → Gains c pass log (what.Acc (acc.Pulse false) reply) bank number → InHistory run before c.pass.hart.0 (what.Acc (acc.Pulse false) reply) number after
     → IsWoken run before after k (next c c.hart progress pass log c.engine c.left)
-is_woken run before after c k progress pass log reply bank number is form value gains history =
+is_woken run before after c k progress pass log reply bank number is context waited form value gains history =
     let woken : IsWoken run before after c (next c c.hart progress pass log c.engine c.left) = record {
       reply = reply;
       adds = record { bank = bank; number = number; noted = gains.extends; history = history };
       form = form;
       value = value;
+      here = (context.told waited).1;
       engine = refl;
       left = refl;
     } in
@@ -555,3 +597,39 @@ pub wanted_engine_is : (view c : Context) (told : Wants) (at : Engine) → view 
     → (w : Wants) → IsWanting c w → at ≡ engine_wanted (plan_of c) c.engine w
 wanted_engine_is view c told at is wanting its w other =
     its ∙ ap (λ (k : Context). engine_wanted (plan_of k) k.engine told) is ∙ ap (λ (x : Wants). engine_wanted (plan_of c) c.engine x) (wants_one c told w wanting other)
+
+-- What is wanted, by what is needed.
+
+abbrev pub wants_by : Need → Wants
+wants_by (need.Ask access class) = wants.Ask class
+wants_by (need.Finish class) = wants.Finish class
+wants_by need.Parked = wants.Parked
+wants_by need.Over = wants.Over
+
+wants_needed : (x : Want) (n : Need) → n ≡ need_of x → wants_of x ≡ wants_by n
+wants_needed (Asks access) n told = sym (ap wants_by told)
+wants_needed (Ends part after) n told = sym (ap wants_by told)
+wants_needed IsParked n told = sym (ap wants_by told)
+wants_needed IsOver n told = sym (ap wants_by told)
+
+pub wanting_by : (c : Context) (n other : Need) → n ≡ other
+    → ((setup : Setup) → IsRunOf c.entry c.settings setup → n ≡ need_of (wanted setup (instruction_at setup c))) → IsWanting c (wants_by other)
+wanting_by c n other is told = λ setup of. wants_needed (wanted setup (instruction_at setup c)) n (told setup of) ∙ ap wants_by is
+
+-- the engine of what is wanted is the one in which the hart is
+pub is_here : (view c : Context) (w : Wants) (at : Engine) → view ≡ c → IsFor (plan_of view) w at → at ≡ view.engine → IsFor (plan_of c) w c.engine
+is_here view c w at is for_it same =
+    let here : IsFor (plan_of view) w view.engine = subst (IsFor (plan_of view) w) same for_it in
+    subst (λ (k : Context). IsFor (plan_of k) w k.engine) is here
+
+pub is_left : (view c : Context) → view ≡ c → IsContext view → 0 < c.left
+is_left view c is context = left_some c (subst IsContext is context)
+
+-- or another
+pub is_elsewhere : (view c : Context) (w : Wants) (to : Engine) → view ≡ c → IsContext view → IsWanting c w → IsFor (plan_of view) w to → to ≢ view.engine
+    → IsElsewhere to c
+is_elsewhere view c w to is context wanting for_it other = record {
+  wanted = (w, wanting, subst (λ (k : Context). IsFor (plan_of k) w to) is for_it);
+  other = subst (λ (k : Context). to ≢ k.engine) is other;
+  left = is_left view c is context;
+}

@@ -3,7 +3,7 @@ ghost use Rattle.flex_base.specs.Loaded.{image_fits};
 ghost use Rattle.access_record.specs.Rule.{occurrences};
 ghost use Rattle.access_record.specs.Passes.{add_hart};
 ghost use Rattle.context.specs.declared.wants.Wants.TheVariants as Wants;
-ghost use Rattle.context.specs.Contexts.{IsWanting, IsWantedIn, IsOn, IsSame};
+ghost use Rattle.context.specs.Contexts.{IsWanting, IsElsewhere, IsOn, IsSame};
 ghost use Rattle.context.specs.Tried.{IsTried};
 
 use super::*;
@@ -48,46 +48,46 @@ fn image(alloc: Global) -> Result<Image, AllocError> {
     })
 }
 
-// What a hart did by one call.
+// What a hart did.
 #[derive(Clone, Copy, PartialEq, Eq)]
 enum Did {
-    Stepped(Engine),
+    Accessed(Engine),
+    Ended(Engine),
+    // A handover, and then the event that was due.
     Moved(Engine),
     Woke,
     Slept,
     Nothing,
 }
 
-// Makes a hart's next event, or the handover that is due before it.
+// Makes a hart's next event, and before it the handover that is due.
 fn next<B: Bus>(context: HartContext, bus: &mut B) -> (HartContext, Did)
     requires on { IsOn (B.run bus.old) context }
     ensures on { IsOn (B.run bus.new) result.0 }
     ensures same { IsSame context result.0 }
     ensures bus { B.run bus.new ≡ B.run bus.old }
 {
-    let to = context.wanted_engine();
-    match context.wants() {
-        Wants::Ask(_) => go(context, bus, to),
-        Wants::Finish(_) => go(context, bus, to),
-        Wants::Parked => try_to_wake(context, bus),
-        Wants::Over => (context, Did::Nothing),
+    let mut context = context;
+    let wanted = context.wanted_engine();
+    match context.go(bus) {
+        Went::Accessed => (context, Did::Accessed(wanted)),
+        Went::Ended => (context, Did::Ended(wanted)),
+        Went::Elsewhere(to) => move_on(context, bus, to),
+        Went::Parked => try_to_wake(context, bus),
+        Went::Over => (context, Did::Nothing),
     }
 }
 
-// Makes an event in the engine that it wants, or goes there.
-fn go<B: Bus>(context: HartContext, bus: &mut B, to: Engine) -> (HartContext, Did)
+// Hands a hart over, and makes the event that it wants there.
+fn move_on<B: Bus>(context: HartContext, bus: &mut B, to: Engine) -> (HartContext, Did)
     requires on { IsOn (B.run bus.old) context }
-    requires wanted { IsWantedIn context to }
+    requires elsewhere { IsElsewhere to context }
     ensures on { IsOn (B.run bus.new) result.0 }
     ensures same { IsSame context result.0 }
     ensures bus { B.run bus.new ≡ B.run bus.old }
 {
-    let _ = context.round_left();
-    if context.engine() == to {
-        (context.step(bus), Did::Stepped(to))
-    } else {
-        (context.hand_over(bus, to), Did::Moved(to))
-    }
+    let context = context.hand_over(bus, to);
+    (context.step(bus), Did::Moved(to))
 }
 
 fn try_to_wake<B: Bus>(context: HartContext, bus: &mut B) -> (HartContext, Did)
@@ -159,42 +159,36 @@ fn count_amos(log: &HartLog) -> u64 {
 }
 
 // Hart 0 is handed over between the fetch of its atomic operation and the operation.
-const WAITS: [Did; 18] = [
-    Did::Stepped(Engine::Pipe),
-    Did::Stepped(Engine::Pipe),
-    Did::Stepped(Engine::Pipe),
+const WAITS: [Did; 13] = [
+    Did::Accessed(Engine::Pipe),
+    Did::Ended(Engine::Pipe),
+    Did::Accessed(Engine::Pipe),
     Did::Moved(Engine::Kernel),
-    Did::Stepped(Engine::Kernel),
-    Did::Stepped(Engine::Kernel),
+    Did::Accessed(Engine::Kernel),
     Did::Moved(Engine::Pipe),
-    Did::Stepped(Engine::Pipe),
-    Did::Stepped(Engine::Pipe),
-    Did::Stepped(Engine::Pipe),
+    Did::Ended(Engine::Pipe),
+    Did::Accessed(Engine::Pipe),
     Did::Moved(Engine::Kernel),
-    Did::Stepped(Engine::Kernel),
-    Did::Stepped(Engine::Kernel),
+    Did::Ended(Engine::Kernel),
     Did::Moved(Engine::Pipe),
-    Did::Stepped(Engine::Pipe),
     Did::Moved(Engine::Kernel),
-    Did::Stepped(Engine::Kernel),
     Did::Slept,
 ];
 
 // Hart 1 jumps, and interrupts hart 0.
-const SENDS: [Did; 9] = [
-    Did::Stepped(Engine::Pipe),
-    Did::Stepped(Engine::Pipe),
-    Did::Stepped(Engine::Pipe),
-    Did::Stepped(Engine::Pipe),
-    Did::Stepped(Engine::Pipe),
-    Did::Stepped(Engine::Pipe),
-    Did::Stepped(Engine::Pipe),
+const SENDS: [Did; 8] = [
+    Did::Accessed(Engine::Pipe),
+    Did::Ended(Engine::Pipe),
+    Did::Accessed(Engine::Pipe),
+    Did::Ended(Engine::Pipe),
+    Did::Accessed(Engine::Pipe),
+    Did::Ended(Engine::Pipe),
+    Did::Accessed(Engine::Pipe),
     Did::Moved(Engine::Host),
-    Did::Stepped(Engine::Host),
 ];
 
 // So hart 0 is woken, and ends its instruction.
-const GOES_ON: [Did; 2] = [Did::Woke, Did::Stepped(Engine::Kernel)];
+const GOES_ON: [Did; 2] = [Did::Woke, Did::Ended(Engine::Kernel)];
 
 #[test]
 fn harts_go_from_engine_to_engine(rt: HostRuntime) -> Result<(), Fail> {
@@ -224,7 +218,7 @@ fn harts_go_from_engine_to_engine(rt: HostRuntime) -> Result<(), Fail> {
     let mut end = bus.dissolve();
     let closed = end.settle(founder, passes);
     end.discard();
-    assert_eq!(rt; [waits, sends, goes_on], [18, 9, 2]);
+    assert_eq!(rt; [waits, sends, goes_on], [13, 8, 2]);
     assert_eq!(rt; [log.len(), second_log.len(), closed.count], [19, 9, 28]);
     assert_eq!(rt;
         [count_amos(&log), hart.regs.get(6), hart.regs.ends],

@@ -1,14 +1,15 @@
-use Rattle.std.proofs.Common.{sym, ◌∙◌}
+-- Where `go` makes nothing, the context is as before.
+use Rattle.std.proofs.Common.{sym, subst}
+use Rattle.context.specs.Contexts.{Context, IsElsewhere, IsWanting}
 use Rattle.context.specs.declared.wants.Wants.TheVariants as wants
-use Rattle.context.specs.Contexts.{IsWanting}
 use Rattle.context.proofs.tests.next.Goals as goal
 
-pub go-requires-clause-wanted : goal.go-requires-clause-wanted
-go-requires-clause-wanted g c =
-    let asks : IsWanting c.args.context (wants.Ask c.in-Ask.field-0) = λ setup of. c.wants.ensures setup of ∙ c.in-Ask.is in
-    (wants.Ask c.in-Ask.field-0, asks, sym (c.wanted_engine-to.ensures (wants.Ask c.in-Ask.field-0) asks))
+pub move_on-requires-clause-elsewhere : goal.move_on-requires-clause-elsewhere
+move_on-requires-clause-elsewhere g c =
+    let Elsewhere : Context → Type 0 = λ k. IsElsewhere c.in-Elsewhere.to k in
+    subst Elsewhere (sym c.in-Elsewhere.ensures.went.1.same) c.in-Elsewhere.ensures.went.0
 
-pub go-requires-in-Finish-clause-wanted : goal.go-requires-in-Finish-clause-wanted
-go-requires-in-Finish-clause-wanted g c =
-    let ends : IsWanting c.args.context (wants.Finish c.in-Finish.field-0) = λ setup of. c.wants.ensures setup of ∙ c.in-Finish.is in
-    (wants.Finish c.in-Finish.field-0, ends, sym (c.wanted_engine-to.ensures (wants.Finish c.in-Finish.field-0) ends))
+pub try_to_wake-requires-clause-parked : goal.try_to_wake-requires-clause-parked
+try_to_wake-requires-clause-parked g c =
+    let Parked : Context → Type 0 = λ k. IsWanting k wants.Parked in
+    subst Parked (sym c.in-Parked.ensures.went.1.same) c.in-Parked.ensures.went.0

@@ -58,8 +58,12 @@ invariant_of-self g c =
 
 pub returns-in-Some-clause-one : goal.returns-in-Some-clause-one
 returns-in-Some-clause-one g c =
+    let On : Context → Type 0 = λ k. IsOn (g.B.Bus.run c.args.bus.now) k in
+    let Parked : Context → Type 0 = λ k. IsWanting k wants.Parked in
+    let of = (subst On (sym c.self.view_is) c.requires.on).setup in
+    let waited = is_waiting_in _ _ c.self.invariant of (subst Parked (sym c.self.view_is) c.requires.parked) in
     let gains = gained _ _ _ _ _ _ _ c.in-Some.ensures.woken c.hart.ensures c.push_access.ensures in
-    is_woken _ _ _ _ _ c.give.new.progress _ _ c.in-Some.reply _ _ c.self.view_is c.in-Some.ensures.form c.in-Some.ensures.value gains c.in-Some.ensures.history
+    is_woken _ _ _ _ _ c.give.new.progress _ _ c.in-Some.reply _ _ c.self.view_is c.self.invariant waited c.in-Some.ensures.form c.in-Some.ensures.value gains c.in-Some.ensures.history
 
 pub returns-in-Some-clause-on : goal.returns-in-Some-clause-on
 returns-in-Some-clause-on g c =
