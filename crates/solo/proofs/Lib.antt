@@ -14,3 +14,4 @@ pub mod Finishing
 pub mod Room
 pub mod Wakes
 pub mod Trying
+pub mod Beginning
