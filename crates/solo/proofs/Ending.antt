@@ -1,13 +1,13 @@
 -- The end of a run: the logs, whose numbers are now known, and the memory.
-use Rattle.std.proofs.Common.{◌≡◌, ◌≢◌, ℕ, ◌+◌, ◌<◌, ◌≤◌, zero, suc, Bool, true, false, ◌==◌, if◌then◌else◌, List, [], ◌∷◌, ◌++◌, length, map, get_or, inl, inr, refl, ap, sym, subst, ◌∙◌, arith, eq-eqb}
-use Rattle.std.proofs.lemmas.Bool.{cases_eq, ne_eqb}
-use Rattle.flex_base.specs.Setup.{Setup}
+use Rattle.std.proofs.Common.{◌≡◌, ℕ, ◌+◌, ◌<◌, ◌≤◌, suc, Bool, true, false, ◌==◌, if◌then◌else◌, List, [], ◌∷◌, length, refl, ap, sym, subst, ◌∙◌, arith, eq-eqb}
+use Rattle.std.proofs.lemmas.Bool.{ne_eqb}
 use Rattle.flex_base.specs.declared.event.Event.{Event}
 use Rattle.access_record.specs.declared.entry.LogEntry.{LogEntry}
 use Rattle.access_record.specs.Logs.{Ascends, sum_below}
 use Rattle.access_record.specs.Buses.{events_of}
+use Rattle.access_record.proofs.Totals.{sum_below-same, sum_below-put, sum_below-none}
 use Rattle.solo.specs.Rising.{Rises, numbered_from, AreOfHarts, of_hart}
-use Rattle.solo.proofs.Rising.{rises_few, rises_numbered}
+use Rattle.solo.proofs.Rising.{rises_numbered}
 use Rattle.solo.proofs.Merging.{of_hart-cons, of_hart-none}
 
 -- Numbers below the count of the record.
@@ -48,27 +48,8 @@ all_below n harts (e ∷ events) are each = (
 
 -- How many events there are.
 
-pub sum_same : (f g : ℕ → ℕ) (n : ℕ) → ((k : ℕ) → k < n → f k ≡ g k) → sum_below n f ≡ sum_below n g
-sum_same f g zero same = refl
-sum_same f g (suc n) same =
-    let rest = sum_same f g n (λ k below. same k (omega (arith, below))) in
-    omega (arith, rest, same n (omega arith))
-
-sum_more : (f g : ℕ → ℕ) (n h : ℕ) → h < n → f h ≡ g h + 1 → ((k : ℕ) → k ≢ h → f k ≡ g k) → sum_below n f ≡ sum_below n g + 1
-sum_more f g zero h below one others = absurd (omega (arith, below))
-sum_more f g (suc n) h below one others = elim (cases_eq h n) [
-  | inl last ↦
-      let rest = sum_same f g n (λ k under. others k (λ same. omega (arith, same, under, last))) in
-      let here : f n ≡ g n + 1 = ap f (sym last) ∙ one ∙ ap (λ k. g k + 1) last in
-      omega (arith, rest, here)
-  | inr before ↦
-      let rest = sum_more f g n h (omega (arith, below, before)) one others in
-      omega (arith, rest, others n (λ same. before (sym same)))
-]
-
 sum_none : (n : ℕ) → sum_below n (λ h. length (of_hart h [])) ≡ 0
-sum_none zero = refl
-sum_none (suc n) = omega (arith, sum_none n, ap (λ (es : List Event). length es) (of_hart-none n))
+sum_none n = sum_below-same n (λ h. length (of_hart h [])) (λ h. 0) (λ h below. ap (λ (es : List Event). length es) (of_hart-none h)) ∙ sum_below-none n
 
 pub sum_parts : (harts : ℕ) (events : List Event) → AreOfHarts harts events → sum_below harts (λ h. length (of_hart h events)) ≡ length events
 sum_parts harts [] are = sum_none harts
@@ -77,10 +58,10 @@ sum_parts harts (e ∷ events) are =
     ap (λ (es : List Event). length es) (of_hart-cons e.hart.0 e events)
     ∙ ap (λ b. length (if b then e ∷ of_hart e.hart.0 events else of_hart e.hart.0 events)) (eq-eqb e.hart.0 e.hart.0 refl)
     ∙ omega arith in
-    let more = sum_more (λ h. length (of_hart h (e ∷ events))) (λ h. length (of_hart h events)) harts e.hart.0 are.0 own (λ k other.
+    let more = sum_below-put harts (λ h. length (of_hart h (e ∷ events))) (λ h. length (of_hart h events)) e.hart.0 are.0 (λ k other.
     ap (λ (es : List Event). length es) (of_hart-cons k e events)
     ∙ ap (λ b. length (if b then e ∷ of_hart k events else of_hart k events)) (ne_eqb e.hart.0 k (λ same. other (sym same)))) in
-    omega (arith, more, sum_parts harts events are.1)
+    omega (arith, more, own, sum_parts harts events are.1)
 
 rises_under : (low high n : ℕ) (events : List Event) → Rises low high events → AreBelow n events → low ≤ n → Rises low n events
 rises_under low high n [] rises below under = under

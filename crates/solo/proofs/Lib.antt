@@ -11,7 +11,7 @@ pub mod Ending
 pub mod Events
 pub mod Settling
 pub mod Finishing
-pub mod Room
+pub mod Taking
 pub mod Wakes
 pub mod Trying
 pub mod Beginning

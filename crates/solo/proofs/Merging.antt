@@ -1,8 +1,10 @@
 -- The merge of the harts' parts of a journal is the journal.
-use Rattle.std.proofs.Common.{◌≡◌, ◌≢◌, ℕ, ◌+◌, ◌<◌, ◌≤◌, zero, suc, Bool, true, false, ◌==◌, if◌then◌else◌, List, [], ◌∷◌, ◌++◌, length, get_or, inl, inr, refl, ap, sym, subst, ◌∙◌, arith, eq-eqb}
-use Rattle.std.specs.List.{filter, flat_map, range_with_len}
+use Rattle.std.proofs.Common.{◌≡◌, ℕ, ◌+◌, ◌<◌, ◌≤◌, zero, suc, Bool, true, false, ◌==◌, if◌then◌else◌, List, [], ◌∷◌, ◌++◌, length, get_or, inl, inr, refl, ap, sym, subst, ◌∙◌, arith, eq-eqb}
+use Rattle.std.specs.List.{All, filter, flat_map, range_with_len}
 use Rattle.std.proofs.lemmas.Bool.{cases_eq, ne_eqb}
+use Rattle.std.proofs.lemmas.List.Elements.{All-cons, All-nil, filter-append}
 use Rattle.flex_base.specs.Merging.{has_number, merge}
+use Rattle.flex_base.specs.Journal.{numbers_of}
 use Rattle.flex_base.specs.declared.event.Event.{Event}
 use Rattle.journal.specs.Log.{Log, all_events}
 use Rattle.solo.specs.Rising.{Rises, AreOfHarts, of_hart}
@@ -20,17 +22,9 @@ drops p e events isnt = ap (λ b. if b then e ∷ filter p events else filter p 
 takes : (p : Event → Bool) (e : Event) (events : List Event) → p e ≡ true → filter p (e ∷ events) ≡ e ∷ filter p events
 takes p e events it_is = ap (λ b. if b then e ∷ filter p events else filter p events) it_is
 
-filter_append : (p : Event → Bool) (xs ys : List Event) → filter p (xs ++ ys) ≡ filter p xs ++ filter p ys
-filter_append p [] ys = refl
-filter_append p (x ∷ xs) ys = by (p x)
-  where
-    by : (b : Bool) → (if b then x ∷ filter p (xs ++ ys) else filter p (xs ++ ys)) ≡ (if b then x ∷ filter p xs else filter p xs) ++ filter p ys
-    by true = ap (λ (es : List Event). x ∷ es) (filter_append p xs ys)
-    by false = filter_append p xs ys
-
 filter_flat : (p : Event → Bool) (f : ℕ → List Event) (ns : List ℕ) → filter p (flat_map f ns) ≡ flat_map (λ n. filter p (f n)) ns
 filter_flat p f [] = refl
-filter_flat p f (n ∷ ns) = filter_append p (f n) (flat_map f ns) ∙ ap (λ (es : List Event). filter p (f n) ++ es) (filter_flat p f ns)
+filter_flat p f (n ∷ ns) = filter-append p (f n) (flat_map f ns) ∙ ap (λ (es : List Event). filter p (f n) ++ es) (filter_flat p f ns)
 
 flat_same : (f g : ℕ → List Event) (a n : ℕ) → ((k : ℕ) → a ≤ k → f k ≡ g k) → flat_map f (range_with_len a n) ≡ flat_map g (range_with_len a n)
 flat_same f g a zero same = refl
@@ -104,6 +98,10 @@ part_none k h low high (e ∷ events) below rises =
     ∙ part_drops k e (of_hart h events) (e.hart.0 == h) (ne_eqb e.number k (λ same. omega (arith, same, below, rises.0)))
     ∙ part_none k h (suc e.number) high events (omega (arith, below, rises.0)) rises.1
 
+all_of_harts : (harts : ℕ) (events : List Event) → AreOfHarts harts events → All (λ (e : Event). e.hart.0 < harts) events
+all_of_harts harts [] are = All-nil (λ (e : Event). e.hart.0 < harts)
+all_of_harts harts (e ∷ events) are = All-cons (λ (x : Event). x.hart.0 < harts) e events are.0 (all_of_harts harts events are.1)
+
 abbrev only : Event → ℕ → List Event
 only e h = if e.hart.0 == h then e ∷ [] else []
 
@@ -152,10 +150,10 @@ one_part k harts low high (e ∷ events) rises are = elim (cases_eq e.number k) 
 -- All together.
 
 pub merged_parts : (harts : ℕ) (journal : List Event) (logs : List Log) → Rises 0 (length journal) journal → AreOfHarts harts journal
-    → length logs ≡ harts → ((h : ℕ) (other : Log) → h < harts → (get_or logs h other).events ≡ of_hart h journal)
+    → numbers_of journal ≡ range_with_len 0 (length journal) → length logs ≡ harts → ((h : ℕ) (other : Log) → h < harts → (get_or logs h other).events ≡ of_hart h journal)
     → AreLogsOf harts journal logs
 unfolding merge
-merged_parts harts journal logs rises are count each =
+merged_parts harts journal logs rises are numbers count each =
     let n = length journal in
     let zero_on : length journal ≡ 0 + length journal = omega arith in
     let From : ℕ → Type 0 = λ high. Rises 0 high journal in
@@ -173,4 +171,6 @@ merged_parts harts journal logs rises are count each =
           ∙ filter_flat (has_number k) (λ h. of_hart h journal) (range_with_len 0 harts)
           ∙ one_part k harts 0 n journal rises are)
           ∙ by_number 0 journal (subst From zero_on rises);
+      numbers = numbers;
+      harts_are = all_of_harts harts journal are;
     }

@@ -1,12 +1,12 @@
 -- The passes of all contexts close the record.
-use Rattle.std.proofs.Common.{◌≡◌, ℕ, ◌+◌, ◌<◌, ◌≤◌, zero, suc, Bool, true, false, ◌==◌, if◌then◌else◌, List, [], ◌∷◌, ◌++◌, length, map, get_or, refl, ap, sym, subst, ◌∙◌, arith, eq-eqb}
+use Rattle.std.proofs.Common.{◌≡◌, ℕ, ◌+◌, ◌<◌, zero, suc, ◌==◌, if◌then◌else◌, List, [], ◌∷◌, length, map, get_or, refl, ap, sym, ◌∙◌, arith, eq-eqb}
 use Rattle.std.specs.List.{All, range_with_len}
 use Rattle.std.proofs.lemmas.Bool.{ne_eqb}
 use Rattle.std.proofs.lemmas.List.Elements.{All-cons, All-nil}
 use Rattle.flex_base.proofs.Orders.{range_with_len_push}
-use Rattle.access_record.specs.declared.entry.LogEntry.{LogEntry}
-use Rattle.access_record.specs.Rule.{total, one_if, count_of, occurrences}
-use Rattle.access_record.specs.Passes.{PassOfHart, RecordIdentity, EachHasPass, logs_of}
+use Rattle.access_record.specs.Rule.{one_if, count_of, occurrences}
+use Rattle.access_record.specs.Passes.{PassOfHart, EachHasPass, logs_of}
+use Rattle.access_record.proofs.Totals.{total-append}
 use Rattle.mem_banks.specs.Plain.{numbers_below}
 use Rattle.context.specs.Contexts.{Context}
 
@@ -50,17 +50,11 @@ count_range h a (c ∷ contexts) are =
     ap (λ n. one_if (n == h) + count_of (λ (p : PassOfHart). p.hart.0) h (passes_of contexts)) (numbered_first a c contexts are)
     ∙ ap (λ n. one_if (a == h) + n) (count_range h (a + 1) contexts (numbered_rest a c contexts are))
 
-occurs_append : (h : ℕ) (xs ys : List ℕ) → occurrences h (xs ++ ys) ≡ occurrences h xs + occurrences h ys
-occurs_append h [] ys = refl
-occurs_append h (x ∷ xs) ys =
-    let rest = occurs_append h xs ys in
-    omega (arith, rest)
-
 occurs_below : (h n : ℕ) → occurrences h (numbers_below n) ≡ occurrences h (range_with_len 0 n)
 occurs_below h zero = refl
 occurs_below h (suc n) =
     let one : suc n ≡ n + 1 = omega arith in
-    let all = ap (λ m. occurrences h (range_with_len 0 m)) one ∙ ap (occurrences h) (range_with_len_push n) ∙ occurs_append h (range_with_len 0 n) (n ∷ []) in
+    let all = ap (λ m. occurrences h (range_with_len 0 m)) one ∙ ap (occurrences h) (range_with_len_push n) ∙ total-append (λ (x : ℕ). one_if (x == h)) (range_with_len 0 n) (n ∷ []) in
     let before = occurs_below h n in
     omega (arith, all, before)
 
