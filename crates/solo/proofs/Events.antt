@@ -1,11 +1,10 @@
 -- An event that a context made over a bus of one thread is the machine's.
-use Rattle.std.proofs.Common.{◌≡◌, ◌≢◌, ℕ, ◌+◌, ◌/◌, ◌<◌, if◌then◌else◌, List, [], ◌∷◌, ◌++◌, length, get_or, set, Some, inl, inr, refl, ap, sym, subst, ◌∙◌, arith, length-set, get_or-set_same, get_or-set_other}
-use Rattle.std.proofs.Math.Nat.{mod-lt}
+use Rattle.std.proofs.Common.{◌≡◌, ◌≢◌, ℕ, ◌+◌, ◌<◌, List, [], ◌∷◌, ◌++◌, length, get_or, set, Some, inl, inr, refl, ap, sym, subst, ◌∙◌, arith, length-set, get_or-set_same, get_or-set_other}
 use Rattle.std.proofs.lemmas.Bool.{cases_Bool}
 use Rattle.flex_base.specs.Setup.{Setup}
 use Rattle.flex_base.specs.FlatMemory.{Done, is_ram_access}
 use Rattle.flex_base.specs.Forms.{IsPlaced}
-use Rattle.flex_base.specs.Banks.{bank_of, address_of, IsAnswered}
+use Rattle.flex_base.specs.Banks.{IsAnswered}
 use Rattle.flex_base.specs.StoryTree.{Want, Asks, Ends, IsOver, IsParked}
 use Rattle.flex_base.specs.Following.{MayDo}
 use Rattle.flex_base.specs.Classes.{class_of_what}
@@ -22,7 +21,6 @@ use Rattle.access_record.specs.Histories.{History, history_after, Grows}
 use Rattle.transplant_plan.specs.Planning.{engine_at}
 use Rattle.transplant_plan.specs.Split.{Splitting}
 use Rattle.transplant_plan.specs.declared.plan.Plan.{Plan}
-use Rattle.mem_lines.proofs.Dealing.{some_banks}
 use Rattle.mem_banks.specs.Plain.{Plain}
 use Rattle.context.specs.declared.wants.Wants.{Wants}
 use Rattle.context.specs.declared.wants.Wants.TheVariants as wants
@@ -33,7 +31,7 @@ use Rattle.solo.specs.Solo.{Solo, engines_of, done_at}
 use Rattle.solo.specs.Standing.{Holds, IsAt, split_of}
 use Rattle.solo.proofs.Standing.{hart_read, instruction_read, wants_read}
 use Rattle.solo.proofs.Flat.{IsReserved}
-use Rattle.solo.proofs.Serving.{told, serves_access, serves_own, reserved_asked}
+use Rattle.solo.proofs.Serving.{bank_below, device_last, told, serves_access, serves_own, reserved_asked}
 use Rattle.solo.proofs.Stepping.{Goes, grown, with_hart, holds_more}
 use Rattle.solo.proofs.Making.{Does, Accesses, Finishes, IsOfClass, does_next, goes_access, goes_end, goes_handover, events_access, events_end, grown_in, grown_after, set_twice, split_more}
 
@@ -62,19 +60,11 @@ module _ (setup : Setup) (u : Machine) (p : Splitting) (s : Solo) (h : ℕ) (c n
       let On : Run → Type 0 = λ r. IsOn r new in
       subst On (sym run_same) on
 
-  -- each access has a bank
   place_within : (access : Access) → place_in s.bus.run access < length s.bus.history.banks
-  place_within access =
-      let banks = ram_banks s.bus.run in
-      let below_last : bank_of banks (address_of access) < banks = mod-lt (address_of access / 64) (some_banks banks holds.memory.counted) in
-      elim (cases_Bool (is_ram_access access)) [
-        | inl ram ↦
-            let here : place_in s.bus.run access ≡ bank_of banks (address_of access) = ap (λ b. if b then bank_of banks (address_of access) else banks) ram in
-            omega (arith, here, below_last, holds.memory.all, holds.memory.whole)
-        | inr device ↦
-            let last : place_in s.bus.run access ≡ banks = ap (λ b. if b then bank_of banks (address_of access) else banks) device in
-            omega (arith, last, holds.memory.all, holds.memory.whole)
-      ]
+  place_within access = elim (cases_Bool (is_ram_access access)) [
+    | inl ram ↦ omega (arith, bank_below setup u s.bus h access holds.memory ram, holds.memory.all, holds.memory.whole)
+    | inr device ↦ omega (arith, device_last setup u s.bus h access holds.memory device, holds.memory.all, holds.memory.whole)
+  ]
 
   pub access_made : (access : Access) (reply : Reply) (adds : Adds s.bus.run (Some s.bus.history) (Some bus.history) (what.Acc access reply) c new) → new.engine ≡ c.engine
       → next_of setup u h ≡ Asks access → IsPlaced setup.harts setup.ram access → IsReserved u.ram h access

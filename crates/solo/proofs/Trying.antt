@@ -1,34 +1,31 @@
 -- What a step comes to, by what the context wants.
-use Rattle.std.proofs.Common.{◌≡◌, ℕ, ◌<◌, List, [], length, get_or, set, Option, Some, refl, ap, sym, subst, ◌∙◌, arith}
-use Rattle.std.proofs.lemmas.List.{get_or_default, set-get_or}
+use Rattle.std.proofs.Common.{◌≡◌, ℕ, ◌<◌, length, get_or, set, Option, Some, refl, ap, sym, subst, ◌∙◌, arith, get_or-set_same}
 use Rattle.flex_base.specs.Setup.{Setup}
 use Rattle.flex_base.specs.State.{State}
 use Rattle.flex_base.specs.StoryTree.{Want, Asks, Ends, IsOver, IsParked}
 use Rattle.flex_base.specs.Unsplit.{Machine, want_of, step}
 use Rattle.flex_base.specs.declared.access.Access.{Access}
 use Rattle.flex_base.specs.declared.class.Class.{Class}
+use Rattle.flex_base.specs.declared.engine.Engine.{Engine}
 use Rattle.flex_base.specs.declared.event.EndPart.{EndPart}
 use Rattle.flex_base.proofs.Machines.{step_over}
 use Rattle.flex_base.proofs.Turns.{turn_of-asks, turn_of-ends, turn_of-over}
-use Rattle.flex_base.specs.declared.engine.Engine.{Engine}
 use Rattle.access_record.specs.Buses.{Run}
 use Rattle.access_record.specs.Histories.{History}
 use Rattle.transplant_plan.specs.Planning.{engine_at}
 use Rattle.transplant_plan.specs.declared.plan.Plan.{Plan}
 use Rattle.mem_banks.specs.Plain.{Plain}
-use Rattle.mem_banks.specs.End.{IsFounderOf}
 use Rattle.context.specs.declared.wants.Wants.{Wants}
 use Rattle.context.specs.declared.wants.Wants.TheVariants as wants
-use Rattle.context.specs.Contexts.{Context, IsOn, IsSame, IsWanting, IsElsewhere, Moves, Goes, plan_of}
+use Rattle.context.specs.Contexts.{Context, IsOn, IsSame, IsWanting, IsElsewhere, Moves, Goes, Stays, events_in, plan_of}
 use Rattle.context.specs.Obeying.{wants_of, IsFor}
 use Rattle.context.proofs.Keeping.{wants_one}
 use Rattle.solo.specs.Solo.{Solo}
-use Rattle.solo.specs.Standing.{IsMade, Holds, IsAt, split_of}
+use Rattle.solo.specs.Standing.{IsAt}
 use Rattle.solo.specs.Playing.{Accesses, Finishes, Rests}
 use Rattle.solo.proofs.Standing.{harts_are, wants_read}
-use Rattle.solo.proofs.Serving.{serves_own}
-use Rattle.solo.proofs.Stepping.{with_hart}
-use Rattle.solo.proofs.Events.{ask_tells, finish_tells, stays_at, moved_at}
+use Rattle.solo.proofs.Stepping.{with_hart, holds_still}
+use Rattle.solo.proofs.Events.{some_history, ask_tells, finish_tells, stays_at, moved_at}
 
 asks_by : (w : Want) (class : Class) → wants_of w ≡ wants.Ask class → (access : Access) × (w ≡ Asks access)
 asks_by (Asks access) class e = (access, refl)
@@ -48,19 +45,12 @@ over_by (Ends part next) e = absurd cc
 over_by IsOver e = refl
 over_by IsParked e = absurd cc
 
--- the context at a place, whatever stands for one beyond them
-pub same_context : (contexts : List Context) (h : ℕ) (c other : Context) → h < length contexts → c ≡ get_or contexts h c → get_or contexts h other ≡ c
-same_context contexts h c other within read = get_or_default contexts h other c within ∙ sym read
-
--- two readings of one place
-pub same_read : (contexts : List Context) (h : ℕ) (c d : Context) → h < length contexts → c ≡ get_or contexts h c → d ≡ get_or contexts h d → c ≡ d
-same_read contexts h c d within first second = sym (same_context contexts h c d within first) ∙ sym second
-
-pub elsewhere_read : (contexts : List Context) (h : ℕ) (c : Context) (to : Engine) → c ≡ get_or contexts h c
-    → ((other : Context) → IsElsewhere to (get_or contexts h other)) → IsElsewhere to c
-elsewhere_read contexts h c to read elsewhere =
+-- the context that was read of a machine whose contexts these are wants the work of the engine
+pub elsewhere_read : (now s : Solo) (h : ℕ) (c : Context) (to : Engine) → s ≡ now → c ≡ get_or s.contexts h c
+    → ((other : Context) → IsElsewhere to (get_or now.contexts h other)) → IsElsewhere to c
+elsewhere_read now s h c to view read elsewhere =
     let Is : Context → Type 0 = λ x. IsElsewhere to x in
-    subst Is (sym read) (elsewhere c)
+    subst Is (sym (read ∙ ap (λ (x : Solo). get_or x.contexts h c) view)) (elsewhere c)
 
 -- A hart that was handed over to the engine of what it wants.
 
@@ -90,32 +80,30 @@ module _ (run : Run) (before after : Option History) (to : Engine) (c moved : Co
       let w = there.wanted in
       there.other (same_plan w.0 again (wanting_before w.0 w.1).1 w.2 ∙ sym moves.engine)
 
--- What a hart did.
+-- What a hart did, by what its context's call tells. The machine is said of by its value, the context by the fields.
 
-module _ (setup : Setup) (u : Machine) (s : Solo) (h : ℕ) (c : Context) (at : IsAt setup u s) (inside : h < s.settings.harts) (read : c ≡ get_or s.contexts h c) where
-  pub below : h < setup.harts
-  below = omega (arith, inside, harts_are setup u _ s at)
+module _ (setup : Setup) (u : Machine) (now s : Solo) (h : ℕ) (c : Context) (view : s ≡ now) (at_now : IsAt setup u now) (inside : h < now.settings.harts)
+    (read : c ≡ get_or s.contexts h c) where
+  at : IsAt setup u s
+  at =
+      let At : Solo → Type 0 = λ x. IsAt setup u x in
+      subst At (sym view) at_now
 
-  pub in_contexts : h < length s.contexts
-  in_contexts = omega (arith, below, at.counted)
+  below : h < setup.harts
+  below = omega (arith, inside, harts_are setup u _ now at_now)
 
   in_harts : h < length u.harts
   in_harts = omega (arith, below, at.halves)
 
-  pub asked_at : (class : Class) (next : Solo) → IsWanting c (wants.Ask class) → IsAt setup (step setup u h) next → Accesses setup u h next
+  asked_at : (class : Class) (next : Solo) → IsWanting c (wants.Ask class) → IsAt setup (step setup u h) next → Accesses setup u h next
   asked_at class next wanting there =
       let asks = asks_by (want_of setup u h) class (wants_read setup u _ s at h c below read (wants.Ask class) wanting) in
       record { at = there; names = turn_of-asks setup u h asks.0 below in_harts asks.1 }
 
-  pub ended_at : (class : Class) (next : Solo) → IsWanting c (wants.Finish class) → IsAt setup (step setup u h) next → Finishes setup u h next
+  ended_at : (class : Class) (next : Solo) → IsWanting c (wants.Finish class) → IsAt setup (step setup u h) next → Finishes setup u h next
   ended_at class next wanting there =
       let ends = ends_by (want_of setup u h) class (wants_read setup u _ s at h c below read (wants.Finish class) wanting) in
       record { at = there; names = turn_of-ends setup u h ends.0 ends.1 ends.2 }
-
-  pub over_at : IsWanting c wants.Over → Rests setup u h s
-  over_at wanting =
-      let over = over_by (want_of setup u h) (wants_read setup u _ s at h c below read wants.Over wanting) in
-      record { at = at; still = step_over setup u h below over; names = turn_of-over setup u h over }
 
   -- in the engine of its class
   module _ (new : Context) (bus : Plain) (same : IsSame c new) (on : IsOn s.bus.run new) (run_same : bus.run ≡ s.bus.run) where
@@ -141,39 +129,19 @@ module _ (setup : Setup) (u : Machine) (s : Solo) (h : ℕ) (c : Context) (at : 
         (moved_at setup u s h c moved new between bus to wants.Finish at below read elsewhere.other same on run_same moves same' on' run_same' finish_tells went)
 
   -- nothing
-  pub still_at : (new : Context) (bus : Plain) → new ≡ c → bus.run ≡ s.bus.run → bus.history ≡ s.bus.history → IsAt setup u (with_hart s h new bus)
-  still_at new bus same run_same history =
-      let p = split_of setup u s in
-      let next : Solo = record s { bus = bus } in
-      let Founds : Run → Type 0 = λ r. IsFounderOf r s.founder in
-      let Made : ℕ → Type 0 = λ n. IsMade setup.harts n p.events at.made in
-      let there : Holds setup u p next = record {
-        some = at.some;
-        few = at.few;
-        ends = at.ends;
-        reached = at.reached;
-        settings_is = at.settings_is;
-        halves = at.halves;
-        counted = at.counted;
-        engines = at.engines;
-        made = at.made;
-        are_made = subst Made (sym (ap (λ (x : History). x.least) history)) at.are_made;
-        each = λ k other below_k.
-            let was = at.each k other below_k in
-            let On : Run → Type 0 = λ r. IsOn r (get_or s.contexts k other) in
-            record {
-              on = subst On (sym run_same) was.on;
-              number = was.number;
-              plan_is = was.plan_is;
-              settings_are = was.settings_are;
-              instruction = was.instruction;
-              events = was.events;
-              engine_is = was.engine_is;
-            };
-        memory = serves_own setup u u s.bus bus at.memory run_same (ap (λ (x : History). length x.banks) history) refl refl
-            (λ bank. ap (λ (x : History). get_or x.banks bank []) history);
-        enrolment = record { founder_is = subst Founds (sym run_same) at.enrolment.founder_is; enrolled = at.enrolment.enrolled };
-      } in
-      let kept : set s.contexts h new ≡ s.contexts = ap (set s.contexts h) (same ∙ read) ∙ set-get_or s.contexts h c in
-      let At : List Context → Type 0 = λ cs. Holds setup u p (record next { contexts = cs }) in
-      subst At (sym kept) there
+  module _ (new : Context) (bus : Plain) (same : IsSame c new) (on : IsOn s.bus.run new) (run_same : bus.run ≡ s.bus.run)
+      (stays : Stays (Some s.bus.history) (Some bus.history) c new) where
+    pub still_at : IsAt setup u (with_hart s h new bus)
+    still_at = holds_still setup u _ s h c new bus at below read same (ap events_in stays.same) (ap (λ (x : Context). x.engine) stays.same) on run_same
+        (some_history bus.history s.bus.history stays.stays)
+
+    pub parked_still : IsWanting c wants.Parked → (other : Context) → IsWanting (get_or (set s.contexts h new) h other) wants.Parked
+    parked_still wanting other =
+        let within : h < length s.contexts = omega (arith, below, at.counted) in
+        let Is : Context → Type 0 = λ x. IsWanting x wants.Parked in
+        subst Is (sym (get_or-set_same s.contexts h new other within ∙ stays.same)) wanting
+
+    pub over_at : IsWanting c wants.Over → Rests setup u h (with_hart s h new bus)
+    over_at wanting =
+        let over = over_by (want_of setup u h) (wants_read setup u _ s at h c below read wants.Over wanting) in
+        record { at = still_at; still = step_over setup u h below over; names = turn_of-over setup u h over }
