@@ -1,5 +1,5 @@
 -- The logs of the journals that tests read by number.
-use Rattle.std.proofs.Common.{◌≡◌, ℕ, zero, suc, ◌<◌, List, [], ◌∷◌, length, get_or, refl, sym, ap, ◌∙◌, arith}
+use Rattle.std.proofs.Common.{◌≡◌, ℕ, zero, suc, ◌<◌, [], ◌∷◌, get_or, sym, ap, ◌∙◌, arith}
 use Rattle.std.specs.List.{All}
 use Rattle.flex_base.specs.Journal.{event, numbers_of}
 use Rattle.flex_base.specs.declared.engine.Engine.TheVariants as engine

@@ -26,9 +26,12 @@ next c =
     let (x, is, first) = yields_next c.self.inside.number _ _ c.next-next.result c.next-next.ensures.steps (sym (ap (begins_with c.self.inside.number) its) ∙ begins) in
     let (all, keeps) = taken rests _ _ _ i at x c.next-next.new.self c.in-Some.ensures.within begins (its ∙ first) in
     let new : set rests at c.next-next.new.self ≡ map events_left (set c.self.inside.rests at c.of.result) =
-    ap (set rests at) (sym c.of.ensures) ∙ sym (map-set events_left c.self.inside.rests at c.of.result) in
-    (x, is, all ∙ ap (λ (rs : List (List Event)). x ∷ merged rs) new,
-    subst (λ (rs : List (List Event)). IsByNumber rs c.self.inside.count at ((c.self.inside.number + 1) % 2 ^ 64)) new keeps)
+    ap (set rests at) (sym c.of.ensures) ∙ sym (map-set events_left c.self.inside.rests at c.of.result) in (
+      x,
+      is,
+      all ∙ ap (λ (rs : List (List Event)). x ∷ merged rs) new,
+      subst (λ (rs : List (List Event)). IsByNumber rs c.self.inside.count at ((c.self.inside.number + 1) % 2 ^ 64)) new keeps,
+    )
 
 pub invariant_of-self : goal.invariant_of-self
 invariant_of-self c = let (x, is, all, keeps) = next c in keeps
