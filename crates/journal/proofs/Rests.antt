@@ -9,7 +9,7 @@ use Rattle.flex_base.specs.declared.event.Event.{Event}
 use Rattle.journal.specs.Log.{Log}
 use Rattle.journal.specs.Merged.{AreLogsOf, of_hart}
 use Rattle.journal.specs.Rests.{AreRests, IsByNumber, IsLeft, begins_with, events_left, is_in_range, merged}
-use Rattle.journal.specs.declared.merged.Rest.{Rest}
+use Rattle.journal.specs.declared.rest.Rest.{Rest}
 use Rattle.journal.proofs.Merging.{at_least, first-number, merged-harts, of_hart-none, of_hart-other, of_hart-own, rest-numbered}
 
 module _ (rests : List (List Event)) (count : ℕ) where

@@ -6,7 +6,7 @@ use Rattle.flex_base.specs.declared.event.Event.{Event}
 use Rattle.journal.specs.Log.{Log, has_number}
 use Rattle.journal.specs.Merged.{of_hart}
 use Rattle.journal.specs.Packing.{events_of}
-use Rattle.journal.specs.declared.merged.Rest.{Rest}
+use Rattle.journal.specs.declared.rest.Rest.{Rest}
 
 -- the events of what is left of a log
 abbrev pub events_left : Rest → List Event

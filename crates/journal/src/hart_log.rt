@@ -3,11 +3,13 @@ ghost use Rattle.flex_base.specs.Journal.{event};
 ghost use Rattle.journal.specs.Log.{Log};
 ghost use Rattle.journal.specs.Packing.{view_of, what_of};
 ghost use Rattle.journal.specs.Keeping.{IsKept};
+ghost use Rattle.journal.specs.Rests.{events_left};
 
 use crate::events::Events;
 use crate::kept::{Kept, Last};
 use crate::kept_event::KeptEvents;
 use crate::parts::Parts;
+use crate::rest::Rest;
 use flex_base::{Access, EndPart, Engine, Event, HartId, Reply, What};
 use std::alloc::{AllocError, Global};
 use std::marker::Model;
@@ -152,7 +154,14 @@ impl HartLog {
     pub fn kept_events(&self) -> KeptEvents<'_>
         ensures { result ≡ self.now.events }
     {
-        KeptEvents {
+        KeptEvents { rest: self.rest() }
+    }
+
+    // All of them, for one who reads several logs.
+    pub(crate) fn rest(&self) -> Rest<'_>
+        ensures { events_left result ≡ self.now.events }
+    {
+        Rest {
             kept: &self.kept,
             beside: self.beside.as_slice(),
         }
