@@ -95,9 +95,9 @@ fn place_of(rests: &[Rest<'_>; LOGS], count: usize, last: usize, number: u64) ->
     if rests[last].begins_with(number) {
         return Some(last);
     }
-    match first_of(rests, last, count, number) {
+    match first_of(rests, last + 1, count, number) {
         Some(at) => Some(at),
-        None => first_of(rests, 0, last, number),
+        None => first_of(rests, 0, last + 1, number),
     }
 }
 
