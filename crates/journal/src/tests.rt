@@ -77,15 +77,15 @@ fn a_log_gives_what_was_pushed(rt: HostRuntime) -> Result<(), Fail> {
     Ok(())
 }
 
-// An event of a hart.
+// An event of a hart. Its last number isn't small.
 fn of_hart(hart: u8, number: u64) -> Event
-    ensures { result ≡ event number hart Engine.Pipe (What.Handover Engine.Host) }
+    ensures { (happened : What) × (result ≡ event number hart Engine.Pipe happened) }
 {
     Event {
         number,
         hart: HartId(hart),
         engine: Engine::Pipe,
-        what: What::Handover(Engine::Host),
+        what: end(1 << 40 | number),
     }
 }
 
