@@ -7,6 +7,7 @@ mod kept;
 mod kept_event;
 mod merged;
 mod parts;
+mod rest;
 
 pub use events::Events;
 pub use hart_log::HartLog;

@@ -27,6 +27,9 @@ fn end(first: u64) -> What {
     })
 }
 
+// What goes to another thread.
+fn is_sent<T: Send>(_value: &T) {}
+
 #[test]
 fn an_event_is_kept_in_40_bytes(rt: HostRuntime) {
     assert_eq!(rt; std::mem::size_of::<Kept>(), 40);
@@ -54,6 +57,7 @@ fn a_log_gives_what_was_pushed(rt: HostRuntime) -> Result<(), Fail> {
         event(u64::MAX, end(1 << 40)),
     ];
     let mut log = HartLog::new(rt.alloc(), 5)?;
+    is_sent(&log);
     for one in pushed {
         assert!(rt; log.room() > 0);
         log.push(one);
@@ -73,15 +77,15 @@ fn a_log_gives_what_was_pushed(rt: HostRuntime) -> Result<(), Fail> {
     Ok(())
 }
 
-// An event of a hart.
+// An event of a hart. Its last number isn't small.
 fn of_hart(hart: u8, number: u64) -> Event
-    ensures { result ≡ event number hart Engine.Pipe (What.Handover Engine.Host) }
+    ensures { (happened : What) × (result ≡ event number hart Engine.Pipe happened) }
 {
     Event {
         number,
         hart: HartId(hart),
         engine: Engine::Pipe,
-        what: What::Handover(Engine::Host),
+        what: end(1 << 40 | number),
     }
 }
 
