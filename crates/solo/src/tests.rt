@@ -240,11 +240,7 @@ const SLEEPER: [(u64, Engine); 4] = [
     (21, Engine::Kernel),
 ];
 
-const WAKER: [(u64, Engine); 3] = [
-    (17, Engine::Pipe),
-    (18, Engine::Host),
-    (19, Engine::Host),
-];
+const WAKER: [(u64, Engine); 3] = [(17, Engine::Pipe), (18, Engine::Host), (19, Engine::Host)];
 
 #[test]
 fn a_hart_waits_until_it_is_woken(rt: HostRuntime) -> Result<(), Fail> {
@@ -296,6 +292,9 @@ fn two_plans_end_alike(rt: HostRuntime) -> Result<(), Fail> {
     let by_default = seen(&ended);
     ended.discard();
     assert_eq!(rt; in_host, by_default);
-    assert_eq!(rt; in_host, [4, RAM_BASE + 12, 4, RAM_BASE + 28, 0x200_0000, 1]);
+    assert_eq!(rt;
+        in_host,
+        [4, RAM_BASE + 12, 4, RAM_BASE + 28, 0x200_0000, 1]
+    );
     Ok(())
 }

@@ -25,7 +25,7 @@ loop-h-preserved c =
     let (begun, same, within, logs, logs_room, room) = c.loop-h.invariant in
     let pass_is = c.enrol-next.ensures.pass ∙ ap (λ id. new_pass id (record { 0 = h })) (begun.id ∙ c.requires.founder.0) in
     let one = is_begun run plan settings h c.args.entry c.start-hart.result c.enrol-next.result.1 c.in-Some.log c.new.result c.start-hart.ensures pass_is
-        c.requires.entry c.requires.run c.new.ensures.context c.new.ensures.entry (λ id of. c.new.ensures.on run id of c.requires.limits.1) in
+    c.requires.entry c.requires.run c.new.ensures.context c.new.ensures.entry (λ id of. c.new.ensures.on run id of c.requires.limits.1) in
     let Begun : List Context → Type 0 = λ made. AreBegun run plan settings (h + 1) c.args.founder c.enrol-next.result.0 made in
     let counted : vec_len c.loop-h.logs ≡ settings.harts - h = c.loop-h.logs.ok.0 ∙ ap (λ (ls : List Log). length ls) logs ∙ length-replicate (settings.harts - h) _ in
     let left : vec_len c.loop-h.logs - 1 ≡ settings.harts - (h + 1) = omega (arith, counted) in (
