@@ -1,5 +1,5 @@
 -- Contexts at their start, over a bus that has done nothing, stand for the beginning of the machine.
-use Rattle.std.proofs.Common.{◌≡◌, ℕ, ◌+◌, ◌-◌, ◌*◌, ◌<◌, ◌≤◌, Bool, true, false, ◌||◌, List, [], ◌∷◌, ◌++◌, length, take, replicate, get_or, pos, inl, inr, refl, ap, sym, subst, ◌∙◌, arith}
+use Rattle.std.proofs.Common.{◌≡◌, ℕ, ◌+◌, ◌-◌, ◌*◌, ◌<◌, ◌≤◌, Bool, true, ◌||◌, List, [], ◌∷◌, ◌++◌, length, take, replicate, get_or, pos, inl, inr, refl, ap, sym, subst, ◌∙◌, arith}
 use Rattle.std.specs.Ordering.{int_eq}
 use Rattle.std.proofs.lemmas.Bool.{cases_Bool, cases_eq}
 use Rattle.std.proofs.lemmas.Bool.Decides.{nat_tests}
@@ -9,11 +9,9 @@ use Rattle.flex_base.specs.Setup.{Setup}
 use Rattle.flex_base.specs.State.{start}
 use Rattle.flex_base.specs.Limits.{is_lawful}
 use Rattle.flex_base.specs.Loaded.{Loaded}
-use Rattle.flex_base.specs.FlatMemory.{Done}
 use Rattle.flex_base.specs.Following.{leads_to, instruction_of}
 use Rattle.flex_base.specs.Unsplit.{instruction_from, begin}
 use Rattle.flex_base.specs.declared.class.Class.TheVariants as class
-use Rattle.flex_base.specs.declared.event.Event.{Event}
 use Rattle.flex_base.specs.declared.settings.Settings.{Settings}
 use Rattle.flex_base.proofs.Machines.{reach-none, instruction_at-begin}
 use Rattle.hart_story.specs.StandsFor.{StandsFor}

@@ -1,5 +1,5 @@
 -- The product is bounded.
-use Rattle.std.proofs.Common.{◌≡◌, ◌*◌, ap, ◌∙◌, arith}
+use Rattle.std.proofs.Common.{◌*◌, ap, ◌∙◌, arith}
 use Rattle.flex_base.specs.declared.settings.Settings.{Settings}
 use Rattle.solo.proofs.machine.SoloMachine.most_events.Goals as goal
 
