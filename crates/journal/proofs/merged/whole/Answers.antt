@@ -1,4 +1,4 @@
-use Rattle.std.proofs.Common.{◌∙◌, sym, arith}
+use Rattle.std.proofs.Common.{sym, arith}
 use Rattle.journal.proofs.Rests.{are_rests-more, are_rests-none}
 use Rattle.journal.proofs.merged.whole.Goals as goal
 
