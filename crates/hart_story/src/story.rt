@@ -1,4 +1,4 @@
-ghost use Rattle.std.specs.Prelude.{◌≡◌, ◌≢◌, ◌+◌, ◌<◌, ◌≤◌, ◌&&◌, ◌↔◌, [], ◌∷◌, ◌++◌, ℕ, false, true};
+ghost use Rattle.std.specs.Prelude.{◌≡◌, ◌≢◌, ◌+◌, ◌^◌, ◌<◌, ◌≤◌, ◌&&◌, ◌↔◌, [], ◌∷◌, ◌++◌, ℕ, false, true};
 ghost use Rattle.flex_base.specs.Setup.{Setup};
 ghost use Rattle.flex_base.specs.State.{State, IsFit};
 ghost use Rattle.flex_base.specs.Reservations.{IsOwn, asked};
@@ -24,7 +24,7 @@ ghost use Rattle.hart_story.specs.Need.{need_of, AsksPlaced, NeedsReserved};
 ghost use Rattle.hart_story.specs.Outcome.{IsOf, outcome_of, is_end, IsSoundOutcome};
 ghost use Rattle.hart_story.specs.Progress.{node, left, is_done, is_parked, IsSoundProgress, IsHere, IsIn, want_in, IsAsking, leaves_over, IsEnding, EndsWith, own_in, begun};
 ghost use Rattle.hart_story.specs.StandsFor.{StandsFor, Shows};
-ghost use Rattle.hart_story.specs.Stage.{stage_of, has_begun, is_end_at, walking, left_at, is_over_at, is_parked_at, tells_stop, IsReading, IsSoundAccess, IsSoundStage};
+ghost use Rattle.hart_story.specs.Stage.{stage_of, has_begun, is_end_at, walking, left_at, is_walk_at, is_fetch_at, is_access_at, is_over_at, is_parked_at, tells_stop, IsReading, IsSoundAccess, IsSoundStage};
 ghost use Rattle.hart_story.specs.Translated.{translated_of, state_after, entries_in, fetch_left, IsSoundTranslated};
 
 use crate::causes::INSTRUCTION_ACCESS_FAULT;
@@ -426,13 +426,33 @@ fn go_on(hart: &Hart, progress: &mut Progress, layout: &Layout, reply: Reply)
     ensures over { is_done progress.new ≡ (tells_stop progress.old.stage && reply.stop) }
 {
     match progress.stage {
+        Stage::FetchWalk(_) => after_read(hart, progress, layout, reply),
+        Stage::Fetch(_) => after_fetch(hart, progress, layout, reply),
+        Stage::AccessWalk(_, _) => after_read(hart, progress, layout, reply),
+        Stage::Access(_, _) => after_access(hart, progress, layout, reply),
+        Stage::Device(_, _) => after_access(hart, progress, layout, reply),
+        Stage::Working(outcome) => after_outcome(hart, progress, outcome, reply),
+        Stage::Begun => unreachable!(),
+        Stage::Over => unreachable!(),
+    }
+}
+
+// Goes on with the entry that a walk reads.
+#[inline(never)]
+fn after_read(hart: &Hart, progress: &mut Progress, layout: &Layout, reply: Reply)
+    requires here { (setup : Setup) × (a : State) × (budget : ℕ) × IsHere setup a hart.now progress.old layout.now budget }
+    requires walk { is_walk_at progress.old.stage ≡ true }
+    ensures node { (setup : Setup) (a : State) (budget : ℕ) → IsHere setup a hart.now progress.old layout.now budget
+        → after_one (node setup a progress.old) reply ≡ node setup a progress.new }
+    ensures sound { IsSoundProgress layout.now hart.now progress.new }
+    ensures nearer { left progress.new < left progress.old }
+    ensures goes_on { is_done progress.new ≡ false }
+{
+    match progress.stage {
         Stage::FetchWalk(walk) => {
             let came = after_entry(hart, layout, Kind::Fetch, hart.regs.pc, walk, reply);
             progress.found.note(&came);
             progress.stage = fetch_stage(hart, layout, &came);
-        }
-        Stage::Fetch(_) => {
-            progress.stage = work(hart, layout, &progress.found, reply.value as u32);
         }
         Stage::AccessWalk(walk, work) => {
             let kind = kind_of(work.op);
@@ -440,6 +460,42 @@ fn go_on(hart: &Hart, progress: &mut Progress, layout: &Layout, reply: Reply)
             progress.found.note(&came);
             progress.stage = access_stage(hart, layout, work, &came);
         }
+        _ => unreachable!(),
+    }
+}
+
+// Goes on with the word that is fetched.
+#[inline(never)]
+fn after_fetch(hart: &Hart, progress: &mut Progress, layout: &Layout, reply: Reply)
+    requires here { (setup : Setup) × (a : State) × (budget : ℕ) × IsHere setup a hart.now progress.old layout.now budget }
+    requires fetch { is_fetch_at progress.old.stage ≡ true }
+    requires word { reply.value < 2 ^ 32 }
+    ensures node { (setup : Setup) (a : State) (budget : ℕ) → IsHere setup a hart.now progress.old layout.now budget
+        → after_one (node setup a progress.old) reply ≡ node setup a progress.new }
+    ensures sound { IsSoundProgress layout.now hart.now progress.new }
+    ensures nearer { left progress.new < left progress.old }
+    ensures goes_on { is_done progress.new ≡ false }
+{
+    match progress.stage {
+        Stage::Fetch(_) => {
+            progress.stage = work(hart, layout, &progress.found, reply.value as u32);
+        }
+        _ => unreachable!(),
+    }
+}
+
+// Ends the instruction by the reply to its access of RAM or of a device register.
+#[inline(never)]
+fn after_access(hart: &Hart, progress: &mut Progress, layout: &Layout, reply: Reply)
+    requires here { (setup : Setup) × (a : State) × (budget : ℕ) × IsHere setup a hart.now progress.old layout.now budget }
+    requires access { is_access_at progress.old.stage ≡ true }
+    ensures node { (setup : Setup) (a : State) (budget : ℕ) → IsHere setup a hart.now progress.old layout.now budget
+        → after_one (node setup a progress.old) reply ≡ node setup a progress.new }
+    ensures sound { IsSoundProgress layout.now hart.now progress.new }
+    ensures nearer { left progress.new < left progress.old }
+    ensures goes_on { is_done progress.new ≡ false }
+{
+    match progress.stage {
         Stage::Access(address, work) => {
             let end = end_by_reply(hart, &work, address, reply.value);
             progress.stage = Stage::Working(Outcome::End(end));
@@ -448,13 +504,12 @@ fn go_on(hart: &Hart, progress: &mut Progress, layout: &Layout, reply: Reply)
             let end = end_by_device(hart, &work, reply.value);
             progress.stage = Stage::Working(Outcome::End(end));
         }
-        Stage::Working(outcome) => after_outcome(hart, progress, outcome, reply),
-        Stage::Begun => unreachable!(),
-        Stage::Over => unreachable!(),
+        _ => unreachable!(),
     }
 }
 
 // What the walk comes to by the entry that it needed.
+#[inline(never)]
 fn after_entry(
     hart: &Hart,
     layout: &Layout,
