@@ -33,7 +33,7 @@ use crate::ending::commit;
 use crate::ends::end_without;
 use crate::found::Found;
 use crate::hart::Hart;
-use crate::memory::{access_of, access_stage, class_of, device_access_of, is_in_ram, kind_of};
+use crate::memory::{access_of, class_of, device_access_of, is_in_ram, kind_of, set_access_stage};
 use crate::memory_work::MemoryWork;
 use crate::outcome::Outcome;
 use crate::progress::{Need, Progress};
@@ -458,7 +458,7 @@ fn after_read(hart: &Hart, progress: &mut Progress, layout: &Layout, reply: Repl
             let kind = kind_of(work.op);
             let came = after_entry(hart, layout, kind, work.address, walk, reply);
             progress.found.note(&came);
-            progress.stage = access_stage(hart, layout, work, &came);
+            set_access_stage(hart, layout, &mut progress.stage, work, &came);
         }
         _ => unreachable!(),
     }
@@ -478,7 +478,13 @@ fn after_fetch(hart: &Hart, progress: &mut Progress, layout: &Layout, reply: Rep
 {
     match progress.stage {
         Stage::Fetch(_) => {
-            progress.stage = work(hart, layout, &progress.found, reply.value as u32);
+            work(
+                hart,
+                layout,
+                &progress.found,
+                &mut progress.stage,
+                reply.value as u32,
+            );
         }
         _ => unreachable!(),
     }
@@ -531,6 +537,7 @@ fn after_entry(
 }
 
 // After the access that the instruction has come to.
+#[inline(never)]
 fn after_outcome(hart: &Hart, progress: &mut Progress, outcome: Outcome, reply: Reply)
     requires stage { progress.old.stage ≡ Stage.Working outcome }
     requires asks { left_at (Stage.Working outcome) ≢ 0 }

@@ -60,16 +60,16 @@ returns-in-AccessWalk-clause-node c = λ setup a budget here.
     let now : State = state_at a old.lines old.found in
     let work = c.in-AccessWalk.work in
     let came = c.after_entry-came-in-AccessWalk.result in
-    let to = c.access_stage-progress.result in
+    let to = c.set_access_stage.new.stage in
     let next = reaching work setup in
     let shown = shows c.args.hart.now a old.lines (a.leaves ++ leaves_of old.found) here.stands in
     ap (λ s. after_one s c.args.reply) (ap (node_at setup a old.lines old.found) c.in-AccessWalk.is)
     ∙ ap (λ k. after_one (walking setup.ram now k work.address next c.in-AccessWalk.walk) c.args.reply) (sym c.kind_of-kind.ensures)
     ∙ c.after_entry-came-in-AccessWalk.ensures.arrives setup budget now next here.of shown
     ∙ ap (λ k. translated_of setup.ram now k work.address next came) c.kind_of-kind.ensures
-    ∙ c.access_stage-progress.ensures.goes setup budget now here.of shown
+    ∙ c.set_access_stage.ensures.goes setup budget now here.of shown
     ∙ ap (λ b. stage_of setup b to) (sym (c.note-in-AccessWalk.ensures.leaves a old.lines))
-    ∙ sym (node_begun setup a old.lines c.note-in-AccessWalk.new.self to c.access_stage-progress.ensures.begun)
+    ∙ sym (node_begun setup a old.lines c.note-in-AccessWalk.new.self to c.set_access_stage.ensures.begun)
 
 pub returns-in-AccessWalk-clause-sound : goal.returns-in-AccessWalk-clause-sound
 returns-in-AccessWalk-clause-sound c =
@@ -82,7 +82,7 @@ returns-in-AccessWalk-clause-sound c =
     subst Sound c.in-AccessWalk.is here.sound.stage in
     let came = c.after_entry-came-in-AccessWalk.ensures.sound in
     record {
-      stage = c.access_stage-progress.ensures.sound c.note-in-AccessWalk.new.self.count sound.1 came
+      stage = c.set_access_stage.ensures.sound c.note-in-AccessWalk.new.self.count sound.1 came
           (λ some. omega (arith, ap (λ (f : Found). f.count) (c.note-in-AccessWalk.ensures.same some), sound.2));
       found = c.note-in-AccessWalk.ensures.sound layout.ram work.address came here.sound.found;
     }
