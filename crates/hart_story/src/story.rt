@@ -182,45 +182,48 @@ fn begin(hart: &Hart, progress: &mut Progress, layout: &Layout, lines: u64)
         Some(cause) => progress.stage = trap(cause, 0),
         None => {
             let came = translate(hart, layout, &progress.found, Kind::Fetch, hart.regs.pc);
-            progress.stage = fetch_stage(hart, layout, &came);
+            set_fetch_stage(hart, layout, &mut progress.stage, &came);
         }
     }
 }
 
-// The fetch by what the translation of pc has come to.
-fn fetch_stage(hart: &Hart, layout: &Layout, came: &Translated) -> Stage
+// The fetch by what the translation of pc has come to. The stage is written in place, since it is
+// large.
+#[inline(always)]
+fn set_fetch_stage(hart: &Hart, layout: &Layout, stage: &mut Stage, came: &Translated)
     ensures goes { (setup : Setup) (budget : ℕ) (a : State) → IsOf setup layout.now budget → Shows hart.now a
         → translated_of setup.ram a kind.Fetch a.pc (fetches_at setup) came.now
-        ≡ stage_of setup (state_after a came.now) result }
+        ≡ stage_of setup (state_after a came.now) stage.new }
     ensures sound { (count : ℕ) → is_multiple hart.now.regs.pc 4 ≡ true
         → IsSoundTranslated layout.now.ram hart.now.regs.pc came.now
-        → (entries_in came.now ≢ 0 → count ≡ 0) → count ≤ 1 → IsSoundStage layout.now hart.now count result }
-    ensures nearer { left_at result ≤ fetch_left came.now }
-    ensures begun { has_begun result ≡ true }
-    ensures goes_on { is_over_at result ≡ false }
+        → (entries_in came.now ≢ 0 → count ≡ 0) → count ≤ 1 → IsSoundStage layout.now hart.now count stage.new }
+    ensures nearer { left_at stage.new ≤ fetch_left came.now }
+    ensures begun { has_begun stage.new ≡ true }
+    ensures goes_on { is_over_at stage.new ≡ false }
 {
     match *came {
-        Translated::Walks(walk) => Stage::FetchWalk(walk),
-        Translated::To(address) => fetch_at(hart, layout, address),
-        Translated::Found(address, _) => fetch_at(hart, layout, address),
-        Translated::Fails(cause) => trap(cause, hart.regs.pc),
+        Translated::Walks(walk) => *stage = Stage::FetchWalk(walk),
+        Translated::To(address) => fetch_at(hart, layout, stage, address),
+        Translated::Found(address, _) => fetch_at(hart, layout, stage, address),
+        Translated::Fails(cause) => *stage = trap(cause, hart.regs.pc),
     }
 }
 
 // The fetch at its physical address, which lies in RAM or is an exception.
-fn fetch_at(hart: &Hart, layout: &Layout, address: u64) -> Stage
+#[inline(always)]
+fn fetch_at(hart: &Hart, layout: &Layout, stage: &mut Stage, address: u64)
     ensures fetches { (setup : Setup) (budget : ℕ) (a : State) → IsOf setup layout.now budget → Shows hart.now a
-        → fetches_at setup a address ≡ stage_of setup a result }
+        → fetches_at setup a address ≡ stage_of setup a stage.new }
     ensures sound { (count : ℕ) → is_multiple address 4 ≡ true → count ≤ 1
-        → IsSoundStage layout.now hart.now count result }
-    ensures nearer { left_at result ≤ 6 }
-    ensures begun { has_begun result ≡ true }
-    ensures goes_on { is_over_at result ≡ false }
+        → IsSoundStage layout.now hart.now count stage.new }
+    ensures nearer { left_at stage.new ≤ 6 }
+    ensures begun { has_begun stage.new ≡ true }
+    ensures goes_on { is_over_at stage.new ≡ false }
 {
     if is_in_ram(layout, address, 4) {
-        Stage::Fetch(address)
+        *stage = Stage::Fetch(address);
     } else {
-        trap(INSTRUCTION_ACCESS_FAULT, hart.regs.pc)
+        *stage = trap(INSTRUCTION_ACCESS_FAULT, hart.regs.pc);
     }
 }
 
@@ -452,7 +455,7 @@ fn after_read(hart: &Hart, progress: &mut Progress, layout: &Layout, reply: Repl
         Stage::FetchWalk(walk) => {
             let came = after_entry(hart, layout, Kind::Fetch, hart.regs.pc, walk, reply);
             progress.found.note(&came);
-            progress.stage = fetch_stage(hart, layout, &came);
+            set_fetch_stage(hart, layout, &mut progress.stage, &came);
         }
         Stage::AccessWalk(walk, work) => {
             let kind = kind_of(work.op);

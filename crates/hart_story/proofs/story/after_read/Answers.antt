@@ -25,7 +25,7 @@ returns-in-FetchWalk-clause-node c = λ setup a budget here.
     let now : State = state_at a old.lines old.found in
     let walk = c.in-FetchWalk.walk in
     let came = c.after_entry-came.result in
-    let to = c.fetch_stage-progress.result in
+    let to = c.set_fetch_stage.new.stage in
     let next = fetches_at setup in
     let pc = here.stands.regs.pc in
     let shown = shows c.args.hart.now a old.lines (a.leaves ++ leaves_of old.found) here.stands in
@@ -33,9 +33,9 @@ returns-in-FetchWalk-clause-node c = λ setup a budget here.
     ∙ ap (λ va. after_one (walking setup.ram now kind.Fetch va next walk) c.args.reply) (sym pc)
     ∙ c.after_entry-came.ensures.arrives setup budget now next here.of shown
     ∙ ap (λ va. translated_of setup.ram now kind.Fetch va next came) pc
-    ∙ c.fetch_stage-progress.ensures.goes setup budget now here.of shown
+    ∙ c.set_fetch_stage.ensures.goes setup budget now here.of shown
     ∙ ap (λ b. stage_of setup b to) (sym (c.note.ensures.leaves a old.lines))
-    ∙ sym (node_begun setup a old.lines c.note.new.self to c.fetch_stage-progress.ensures.begun)
+    ∙ sym (node_begun setup a old.lines c.note.new.self to c.set_fetch_stage.ensures.begun)
 
 pub returns-in-FetchWalk-clause-sound : goal.returns-in-FetchWalk-clause-sound
 returns-in-FetchWalk-clause-sound c =
@@ -47,7 +47,7 @@ returns-in-FetchWalk-clause-sound c =
     let aligned : is_multiple c.args.hart.now.regs.pc 4 ≡ true = ap (λ p. is_multiple p 4) here.stands.regs.pc ∙ here.fit.aligned in
     let came = c.after_entry-came.ensures.sound in
     record {
-      stage = c.fetch_stage-progress.ensures.sound c.note.new.self.count aligned came
+      stage = c.set_fetch_stage.ensures.sound c.note.new.self.count aligned came
           (λ some. ap (λ (f : Found). f.count) (c.note.ensures.same some) ∙ sound.1) (omega (arith, c.note.ensures.count, sound.1));
       found = c.note.ensures.sound layout.ram c.args.hart.now.regs.pc came here.sound.found;
     }
