@@ -15,7 +15,7 @@ use Rattle.hart_story.specs.Translated.{translated_of}
 use Rattle.hart_story.specs.declared.found.Found.{Found}
 use Rattle.hart_story.specs.declared.stage.Stage.{Stage}
 use Rattle.hart_story.proofs.Seeing.{shows, sees, node_begun}
-use Rattle.hart_story.proofs.story.go_on.Goals as goal
+use Rattle.hart_story.proofs.replies.go_on.Goals as goal
 
 pub after_outcome-requires-clause-sound : goal.after_outcome-requires-clause-sound
 after_outcome-requires-clause-sound c =
