@@ -5,7 +5,7 @@ use Rattle.flex_base.specs.Reservations.{asked}
 use Rattle.hart_story.specs.Found.{state_at}
 use Rattle.hart_story.proofs.Asking.{begins_here, begun_here, stage_on}
 use Rattle.hart_story.proofs.Seeing.{node_begun}
-use Rattle.hart_story.proofs.story.after_first.Goals as goal
+use Rattle.hart_story.proofs.replies.after_first.Goals as goal
 
 pub go_on-requires-clause-here : goal.go_on-requires-clause-here
 go_on-requires-clause-here c =

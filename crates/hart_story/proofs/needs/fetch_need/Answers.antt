@@ -8,7 +8,7 @@ use Rattle.hart_story.specs.Translated.{state_after, IsSoundTranslated}
 use Rattle.hart_story.specs.declared.translation.Translated.{Translated}
 use Rattle.hart_story.specs.declared.translation.Translated.TheVariants as translated
 use Rattle.hart_story.proofs.Seeing.{aligned_in_page, not_longer}
-use Rattle.hart_story.proofs.story.fetch_need.Goals as goal
+use Rattle.hart_story.proofs.needs.fetch_need.Goals as goal
 
 pub returns-in-Walks-clause-placed : goal.returns-in-Walks-clause-placed
 returns-in-Walks-clause-placed c = λ setup budget a of stands fit.

@@ -11,7 +11,7 @@ use Rattle.hart_story.specs.declared.hart.Hart.{Hart}
 use Rattle.hart_story.specs.declared.progress.Progress.{Progress}
 use Rattle.hart_story.proofs.Asking.{reached_on, node_asks, node_story, stage_on}
 use Rattle.hart_story.proofs.Seeing.{node_begun}
-use Rattle.hart_story.proofs.story.give.Goals as goal
+use Rattle.hart_story.proofs.replies.give.Goals as goal
 
 here_of : (setup : Setup) (i : Instruction) (hart : Hart) (p : Progress) (layout : Layout) (budget : ℕ) → IsIn setup i hart p layout budget
     → IsHere setup i.state hart p layout budget

@@ -10,7 +10,7 @@ use Rattle.hart_story.specs.Translated.{translated_of, state_after, IsSoundTrans
 use Rattle.hart_story.specs.declared.translation.Translated.{Translated}
 use Rattle.hart_story.specs.declared.translation.Translated.TheVariants as translated
 use Rattle.hart_story.proofs.Seeing.{shows_with, aligned_in_page}
-use Rattle.hart_story.proofs.story.fetch_stage.Goals as goal
+use Rattle.hart_story.proofs.story.set_fetch_stage.Goals as goal
 
 pub returns-in-To-clause-sound : goal.returns-in-To-clause-sound
 returns-in-To-clause-sound c = λ count aligned sound entries few.
@@ -25,7 +25,7 @@ returns-in-Found-clause-goes c = λ setup budget a of shown.
     let found : State = with_leaf a leaf in
     ap (translated_of setup.ram a kind.Fetch a.pc (fetches_at setup)) c.in-Found.is
     ∙ c.fetch_at-in-Found.ensures.fetches setup budget found of (shows_with c.args.hart.now a found.leaves shown)
-    ∙ ap (λ t. stage_of setup (state_after a t) c.fetch_at-in-Found.result) (sym c.in-Found.is)
+    ∙ ap (λ t. stage_of setup (state_after a t) c.fetch_at-in-Found.new.stage) (sym c.in-Found.is)
 
 pub returns-in-Found-clause-sound : goal.returns-in-Found-clause-sound
 returns-in-Found-clause-sound c = λ count aligned sound entries few.

@@ -1,4 +1,4 @@
--- Each reply leads on by one in the story.
+-- Each entry leads on by one in the story.
 use Rattle.std.proofs.Common.{◌≡◌, ◌≤◌, true, ap, sym, subst, ◌∙◌, arith, ◌++◌}
 use Rattle.flex_base.specs.State.{State}
 use Rattle.flex_base.specs.StoryTree.{after_one}
@@ -15,23 +15,17 @@ use Rattle.hart_story.specs.Translated.{translated_of}
 use Rattle.hart_story.specs.declared.found.Found.{Found}
 use Rattle.hart_story.specs.declared.stage.Stage.{Stage}
 use Rattle.hart_story.proofs.Seeing.{shows, sees, node_begun}
-use Rattle.hart_story.proofs.story.go_on.Goals as goal
-
-pub after_outcome-requires-clause-sound : goal.after_outcome-requires-clause-sound
-after_outcome-requires-clause-sound c =
-    let old = c.args.progress.now in
-    let Sound : Stage → Type 0 = λ s. IsSoundStage c.args.layout.now c.args.hart.now old.found.count s in
-    (c.args.layout.now, subst Sound c.in-Working.is c.requires.here.4.sound.stage)
+use Rattle.hart_story.proofs.replies.after_read.Goals as goal
 
 -- A walk for the fetch.
 
 pub returns-in-FetchWalk-clause-node : goal.returns-in-FetchWalk-clause-node
-returns-in-FetchWalk-clause-node c = λ setup a access budget here asks.
+returns-in-FetchWalk-clause-node c = λ setup a budget here.
     let old = c.args.progress.now in
     let now : State = state_at a old.lines old.found in
     let walk = c.in-FetchWalk.walk in
     let came = c.after_entry-came.result in
-    let to = c.fetch_stage-progress.result in
+    let to = c.set_fetch_stage.new.stage in
     let next = fetches_at setup in
     let pc = here.stands.regs.pc in
     let shown = shows c.args.hart.now a old.lines (a.leaves ++ leaves_of old.found) here.stands in
@@ -39,66 +33,48 @@ returns-in-FetchWalk-clause-node c = λ setup a access budget here asks.
     ∙ ap (λ va. after_one (walking setup.ram now kind.Fetch va next walk) c.args.reply) (sym pc)
     ∙ c.after_entry-came.ensures.arrives setup budget now next here.of shown
     ∙ ap (λ va. translated_of setup.ram now kind.Fetch va next came) pc
-    ∙ c.fetch_stage-progress.ensures.goes setup budget now here.of shown
+    ∙ c.set_fetch_stage.ensures.goes setup budget now here.of shown
     ∙ ap (λ b. stage_of setup b to) (sym (c.note.ensures.leaves a old.lines))
-    ∙ sym (node_begun setup a old.lines c.note.new.self to c.fetch_stage-progress.ensures.begun)
+    ∙ sym (node_begun setup a old.lines c.note.new.self to c.set_fetch_stage.ensures.begun)
 
 pub returns-in-FetchWalk-clause-sound : goal.returns-in-FetchWalk-clause-sound
 returns-in-FetchWalk-clause-sound c =
     let old = c.args.progress.now in
-    let here = c.requires.here.4 in
+    let here = c.requires.here.3 in
     let layout = c.args.layout.now in
     let Sound : Stage → Type 0 = λ s. IsSoundStage layout c.args.hart.now old.found.count s in
     let sound : IsReading layout.ram c.in-FetchWalk.walk × (old.found.count ≡ 0) = subst Sound c.in-FetchWalk.is here.sound.stage in
     let aligned : is_multiple c.args.hart.now.regs.pc 4 ≡ true = ap (λ p. is_multiple p 4) here.stands.regs.pc ∙ here.fit.aligned in
     let came = c.after_entry-came.ensures.sound in
     record {
-      stage = c.fetch_stage-progress.ensures.sound c.note.new.self.count aligned came
+      stage = c.set_fetch_stage.ensures.sound c.note.new.self.count aligned came
           (λ some. ap (λ (f : Found). f.count) (c.note.ensures.same some) ∙ sound.1) (omega (arith, c.note.ensures.count, sound.1));
       found = c.note.ensures.sound layout.ram c.args.hart.now.regs.pc came here.sound.found;
     }
 
--- The fetch.
-
-pub returns-in-Fetch-clause-node : goal.returns-in-Fetch-clause-node
-returns-in-Fetch-clause-node c = λ setup a access budget here asks.
-    let old = c.args.progress.now in
-    ap (λ s. after_one s c.args.reply) (ap (node_at setup a old.lines old.found) c.in-Fetch.is)
-    ∙ c.work-progress.ensures.works setup budget (state_at a old.lines old.found) here.of
-    (sees c.args.hart.now a old.lines old.found here.stands here.fit.leaves here.sound.found)
-    ∙ sym (node_begun setup a old.lines old.found c.work-progress.result c.work-progress.ensures.begun)
-
-pub returns-in-Fetch-clause-sound : goal.returns-in-Fetch-clause-sound
-returns-in-Fetch-clause-sound c =
-    let old = c.args.progress.now in
-    let here = c.requires.here.4 in
-    let Sound : Stage → Type 0 = λ s. IsSoundStage c.args.layout.now c.args.hart.now old.found.count s in
-    let sound : IsAlignedRam c.args.layout.now.ram c.in-Fetch.field-0 4 × (old.found.count ≤ 1) = subst Sound c.in-Fetch.is here.sound.stage in
-    record { stage = c.work-progress.ensures.sound old.found.count sound.1; found = here.sound.found }
-
 -- A walk for the access.
 
 pub returns-in-AccessWalk-clause-node : goal.returns-in-AccessWalk-clause-node
-returns-in-AccessWalk-clause-node c = λ setup a access budget here asks.
+returns-in-AccessWalk-clause-node c = λ setup a budget here.
     let old = c.args.progress.now in
     let now : State = state_at a old.lines old.found in
     let work = c.in-AccessWalk.work in
     let came = c.after_entry-came-in-AccessWalk.result in
-    let to = c.access_stage-progress.result in
+    let to = c.set_access_stage.new.stage in
     let next = reaching work setup in
     let shown = shows c.args.hart.now a old.lines (a.leaves ++ leaves_of old.found) here.stands in
     ap (λ s. after_one s c.args.reply) (ap (node_at setup a old.lines old.found) c.in-AccessWalk.is)
     ∙ ap (λ k. after_one (walking setup.ram now k work.address next c.in-AccessWalk.walk) c.args.reply) (sym c.kind_of-kind.ensures)
     ∙ c.after_entry-came-in-AccessWalk.ensures.arrives setup budget now next here.of shown
     ∙ ap (λ k. translated_of setup.ram now k work.address next came) c.kind_of-kind.ensures
-    ∙ c.access_stage-progress.ensures.goes setup budget now here.of shown
+    ∙ c.set_access_stage.ensures.goes setup budget now here.of shown
     ∙ ap (λ b. stage_of setup b to) (sym (c.note-in-AccessWalk.ensures.leaves a old.lines))
-    ∙ sym (node_begun setup a old.lines c.note-in-AccessWalk.new.self to c.access_stage-progress.ensures.begun)
+    ∙ sym (node_begun setup a old.lines c.note-in-AccessWalk.new.self to c.set_access_stage.ensures.begun)
 
 pub returns-in-AccessWalk-clause-sound : goal.returns-in-AccessWalk-clause-sound
 returns-in-AccessWalk-clause-sound c =
     let old = c.args.progress.now in
-    let here = c.requires.here.4 in
+    let here = c.requires.here.3 in
     let layout = c.args.layout.now in
     let work = c.in-AccessWalk.work in
     let Sound : Stage → Type 0 = λ s. IsSoundStage layout c.args.hart.now old.found.count s in
@@ -106,17 +82,7 @@ returns-in-AccessWalk-clause-sound c =
     subst Sound c.in-AccessWalk.is here.sound.stage in
     let came = c.after_entry-came-in-AccessWalk.ensures.sound in
     record {
-      stage = c.access_stage-progress.ensures.sound c.note-in-AccessWalk.new.self.count sound.1 came
+      stage = c.set_access_stage.ensures.sound c.note-in-AccessWalk.new.self.count sound.1 came
           (λ some. omega (arith, ap (λ (f : Found). f.count) (c.note-in-AccessWalk.ensures.same some), sound.2));
       found = c.note-in-AccessWalk.ensures.sound layout.ram work.address came here.sound.found;
-    }
-
--- The access that the instruction has come to.
-
-pub returns-in-Working-clause-sound : goal.returns-in-Working-clause-sound
-returns-in-Working-clause-sound c =
-    let Are : Found → Type 0 = λ f. AreLeaves (leaves_of f) in
-    record {
-      stage = c.after_outcome.ensures.sound c.args.layout.now c.after_outcome.new.progress.found.count;
-      found = subst Are (sym c.after_outcome.ensures.found) c.requires.here.4.sound.found;
     }

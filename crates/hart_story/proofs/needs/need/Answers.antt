@@ -8,7 +8,7 @@ use Rattle.hart_story.specs.Progress.{node_at}
 use Rattle.hart_story.specs.Stage.{IsReading, IsSoundAccess, IsSoundStage}
 use Rattle.hart_story.specs.declared.stage.Stage.{Stage}
 use Rattle.hart_story.proofs.Seeing.{shows}
-use Rattle.hart_story.proofs.story.need.Goals as goal
+use Rattle.hart_story.proofs.needs.need.Goals as goal
 
 pub returns-in-Begun-clause-reserved : goal.returns-in-Begun-clause-reserved
 returns-in-Begun-clause-reserved c = λ setup i at. c.first_need.ensures.reserved i.state

@@ -5,7 +5,7 @@ use Rattle.flex_base.specs.StoryTree.{want}
 use Rattle.sv39.specs.IsAfter.{ahead, entries_left}
 use Rattle.hart_story.specs.Need.{need_of}
 use Rattle.hart_story.proofs.Walking.{needs, need_is, walks_asks}
-use Rattle.hart_story.proofs.story.walk_need.Goals as goal
+use Rattle.hart_story.proofs.needs.walk_need.Goals as goal
 
 pub returns-in-Need-clause-told : goal.returns-in-Need-clause-told
 returns-in-Need-clause-told c = λ ram a k va next reading.

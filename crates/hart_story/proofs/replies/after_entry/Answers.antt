@@ -3,7 +3,7 @@ use Rattle.std.proofs.Common.{◌≡◌, ◌-◌, true, ap, ◌∙◌, arith}
 use Rattle.flex_base.specs.Place.{in_ram}
 use Rattle.sv39.specs.IsAfter.{ahead, entries_left}
 use Rattle.hart_story.proofs.Walking.{needs, some_left, walks_on}
-use Rattle.hart_story.proofs.story.after_entry.Goals as goal
+use Rattle.hart_story.proofs.replies.after_entry.Goals as goal
 
 pub returns-clause-arrives : goal.returns-clause-arrives
 returns-clause-arrives c = λ setup budget a next of shown.

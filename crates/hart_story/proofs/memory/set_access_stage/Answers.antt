@@ -7,20 +7,20 @@ use Rattle.hart_story.specs.Translated.{translated_of, state_after, IsSoundTrans
 use Rattle.hart_story.specs.declared.translation.Translated.{Translated}
 use Rattle.hart_story.specs.declared.translation.Translated.TheVariants as translated
 use Rattle.hart_story.proofs.Placing.{has_width, aligned_in_page, shows_with_leaf}
-use Rattle.hart_story.proofs.memory.access_stage.Goals as goal
+use Rattle.hart_story.proofs.memory.set_access_stage.Goals as goal
 
 pub returns-in-To-clause-goes : goal.returns-in-To-clause-goes
 returns-in-To-clause-goes c = λ setup budget a of shown.
     let Goes : Translated → Type 0 = λ came.
     translated_of setup.ram a (kind_of c.args.work.op) c.args.work.address (reaching c.args.work setup) came
-    ≡ stage_of setup (state_after a came) c.place.result in
+    ≡ stage_of setup (state_after a came) c.place.new.stage in
     subst Goes (sym c.in-To.is) (c.place.ensures.places setup budget a of shown)
 
 pub returns-in-Found-clause-goes : goal.returns-in-Found-clause-goes
 returns-in-Found-clause-goes c = λ setup budget a of shown.
     let Goes : Translated → Type 0 = λ came.
     translated_of setup.ram a (kind_of c.args.work.op) c.args.work.address (reaching c.args.work setup) came
-    ≡ stage_of setup (state_after a came) c.place-in-Found.result in
+    ≡ stage_of setup (state_after a came) c.place-in-Found.new.stage in
     subst Goes (sym c.in-Found.is) (c.place-in-Found.ensures.places setup budget (with_leaf a c.in-Found.field-1) of
     (shows_with_leaf c.args.hart.now a c.in-Found.field-1 shown))
 
