@@ -1,4 +1,5 @@
-//! The journal of a hart: its events in order, each kept in 40 bytes, read back by value.
+//! The journal of a hart: its events in order, each kept in 40 bytes, read back by value, and those
+//! of several harts in the order of their numbers.
 #![tactic(auto)]
 
 mod events;
