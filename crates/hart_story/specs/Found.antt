@@ -1,6 +1,5 @@
 -- The leaves that the walks of one instruction have found.
 use Rattle.std.specs.Prelude.{◌≡◌, ℕ, ◌==◌, if◌then◌else◌, List, [], ◌∷◌, ◌++◌}
-use Rattle.flex_base.specs.Setup.{Setup}
 use Rattle.flex_base.specs.State.{State}
 use Rattle.flex_base.specs.Translation.{AreLeaves}
 use Rattle.flex_base.specs.declared.translation.Leaf.{Leaf}

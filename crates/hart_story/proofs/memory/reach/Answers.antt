@@ -1,5 +1,5 @@
 -- An aligned address is translated, and the instruction goes on by what that has come to.
-use Rattle.std.proofs.Common.{◌≡◌, ◌%◌, Bool, true, if◌then◌else◌, ap, sym, ◌∙◌, eq-eqb}
+use Rattle.std.proofs.Common.{◌%◌, Bool, if◌then◌else◌, ap, sym, ◌∙◌, eq-eqb}
 use Rattle.flex_base.specs.Causes.{misaligned}
 use Rattle.flex_base.specs.State.{State}
 use Rattle.flex_base.specs.Ends.{traps}

@@ -6,7 +6,6 @@ use Rattle.flex_base.specs.Word.{is_multiple}
 use Rattle.hart_story.specs.Stage.{IsReading}
 use Rattle.hart_story.specs.Translated.{state_after, IsSoundTranslated}
 use Rattle.hart_story.specs.declared.translation.Translated.{Translated}
-use Rattle.hart_story.specs.declared.translation.Translated.TheVariants as translated
 use Rattle.hart_story.proofs.Seeing.{aligned_in_page, not_longer}
 use Rattle.hart_story.proofs.needs.fetch_need.Goals as goal
 

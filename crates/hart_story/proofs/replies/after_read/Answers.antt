@@ -3,9 +3,7 @@ use Rattle.std.proofs.Common.{◌≡◌, ◌≤◌, true, ap, sym, subst, ◌∙
 use Rattle.flex_base.specs.State.{State}
 use Rattle.flex_base.specs.StoryTree.{after_one}
 use Rattle.flex_base.specs.Story.{fetches_at}
-use Rattle.flex_base.specs.Translation.{AreLeaves}
 use Rattle.flex_base.specs.Word.{is_multiple}
-use Rattle.flex_base.specs.Forms.{IsAlignedRam}
 use Rattle.flex_base.specs.declared.translation.Kind.TheVariants as kind
 use Rattle.hart_story.specs.Found.{leaves_of, state_at}
 use Rattle.hart_story.specs.Memory.{reaching, IsAlignedWork}
@@ -14,7 +12,7 @@ use Rattle.hart_story.specs.Stage.{stage_of, walking, IsReading, IsSoundStage}
 use Rattle.hart_story.specs.Translated.{translated_of}
 use Rattle.hart_story.specs.declared.found.Found.{Found}
 use Rattle.hart_story.specs.declared.stage.Stage.{Stage}
-use Rattle.hart_story.proofs.Seeing.{shows, sees, node_begun}
+use Rattle.hart_story.proofs.Seeing.{shows, node_begun}
 use Rattle.hart_story.proofs.replies.after_read.Goals as goal
 
 -- A walk for the fetch.

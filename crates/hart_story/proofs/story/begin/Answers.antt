@@ -1,5 +1,5 @@
 -- With no interrupt to take the instruction begins with the fetch.
-use Rattle.std.proofs.Common.{◌≡◌, ap, sym, ◌∙◌}
+use Rattle.std.proofs.Common.{ap, sym, ◌∙◌}
 use Rattle.flex_base.specs.State.{State}
 use Rattle.flex_base.specs.Translating.{translates}
 use Rattle.flex_base.specs.Story.{interrupted_by, fetches_at}

@@ -8,7 +8,6 @@ use Rattle.flex_base.specs.declared.translation.Kind.TheVariants as kind
 use Rattle.hart_story.specs.Stage.{stage_of}
 use Rattle.hart_story.specs.Translated.{translated_of, state_after, IsSoundTranslated}
 use Rattle.hart_story.specs.declared.translation.Translated.{Translated}
-use Rattle.hart_story.specs.declared.translation.Translated.TheVariants as translated
 use Rattle.hart_story.proofs.Seeing.{shows_with, aligned_in_page}
 use Rattle.hart_story.proofs.story.set_fetch_stage.Goals as goal
 

@@ -6,7 +6,6 @@ use Rattle.flex_base.specs.State.{State}
 use Rattle.flex_base.specs.Translation.{page_of, kept, walk, IfLeaf}
 use Rattle.flex_base.specs.declared.translation.Leaf.{Leaf}
 use Rattle.flex_base.proofs.Walked.{kept_leaf}
-use Rattle.sv39.specs.IsAfter.{ahead}
 use Rattle.hart_story.specs.Found.{Sees, leaves_of}
 use Rattle.hart_story.specs.declared.found.Found.{Found}
 use Rattle.hart_story.specs.declared.hart.Hart.{Hart}
