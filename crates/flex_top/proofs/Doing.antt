@@ -4,30 +4,14 @@ use Rattle.std.specs.Prelude.{IfSome, IsErrOf}
 use Rattle.flex_base.specs.Files.{Files, Counts, ChangesFile, ChangesText, Said, SaidPart}
 use Rattle.flex_base.specs.Loaded.{Loaded}
 use Rattle.flex_base.specs.Outside.{Outside, OnlyReads, Writes}
-use Rattle.flex_base.specs.Setup.{Setup}
-use Rattle.flex_base.specs.Devices.{sent_bytes}
-use Rattle.flex_base.specs.Unsplit.{reach}
-use Rattle.flex_base.specs.Rounds.{names_played}
-use Rattle.flex_base.specs.Journal.{console}
-use Rattle.flex_base.specs.declared.event.Event.{Event}
 use Rattle.transplant_plan.specs.Assignment.{Assignment}
-use Rattle.transplant_plan.specs.Shown.{shown}
-use Rattle.transplant_plan.specs.Split.{Plan}
-use Rattle.transplant_plan.specs.declared.plan.Plan as declared
-use Rattle.transplant_plan.specs.declared.fault.PlanFault.TheVariants as plan
-use Rattle.image_loader.specs.declared.fault.ImageFault.TheVariants as image
-use Rattle.tracer.specs.Trace.{settings_of, tail_of, whole_text}
-use Rattle.tracer.specs.declared.tail_text.TailLine.{TailLine}
 use Rattle.flex_top.specs.Words.{Reading}
-use Rattle.flex_top.specs.Answer.{Sources, file_among, sources_among, plan_by, plan_from, image_from, input_from, setup_of, journal_of, answer_of, expected, Outcome, outcome_with, outcome_of_run, outcome_of, outcome}
-use Rattle.flex_top.specs.Does.{IsAnswer, first_named, Answers, IsCalm, IsEnded, WritesAll, WritesPart, Leaves, BreaksSaying, BreaksWriting, LeavesPart, LeavesNothing, Does, TellsFaults}
-use Rattle.flex_top.specs.Play.{IsAt}
+use Rattle.flex_top.specs.Answer.{Sources, file_among, sources_among, plan_by, plan_from, image_from, input_from, setup_of, answer_of, expected, Outcome, outcome_of_run, outcome_of, outcome}
+use Rattle.flex_top.specs.Does.{IsAnswer, first_named, Answers, IsCalm, IsEnded, WritesAll, WritesPart, Leaves, BreaksSaying, BreaksWriting, LeavesPart, LeavesNothing, Does}
 use Rattle.flex_top.specs.Taking.{IsFile, Gives, Refuses, IsRefused, IsPlanRefused, IsRefusal, IsOfRun}
 use Rattle.flex_top.specs.Written.{OnlyLeaves, Becomes, BecomesPart}
-use Rattle.flex_top.specs.declared.player.Player.{Player}
 use Rattle.flex_top.specs.declared.status.Status.{Status}
 use Rattle.flex_top.specs.declared.status.Status.TheVariants as status
-use Rattle.flex_top.proofs.Writing.{trace_is, console_is}
 
 -- a call whose count stays has not failed
 pub calm_unfailed : (before now : ℕ) (Fails : Type 0) → Counts before now Fails → IsCalm before now → Fails → ⊥
@@ -332,54 +316,3 @@ does_run r old mid new given start input answer Fails plan_given image_given inp
       long_image = λ n is_long. absurd (let At : Status → Type 0 = IsOfRun in subst At is_long of);
       long_input = λ n is_long. absurd (let At : Status → Type 0 = IsOfRun in subst At is_long of);
     }
-
--- Faults.
-
-no_fault : (before now : ℕ) (Fails : Type 0) → now ≡ before → (Fails → ⊥) → Counts before now Fails
-no_fault before now Fails same unfailed = record {
-  no_fall = omega (arith, same);
-  failed = λ fails. absurd (unfailed fails);
-  calm = λ calm. same;
-}
-
-pub tells_refusal : (old new : Outside) (why : Status) → IsRefusal why → OnlyReads old new (why ≡ status.ReadFault) → TellsFaults old why new
-tells_refusal old new why is took = record {
-  read = took.cause;
-  write = no_fault old.write_faults new.write_faults (why ≡ status.WriteFault) took.write_faults (refusal_unwritten why is);
-}
-
-pub tells_run : (old mid new : Outside) (answer : Status) (Fails : Type 0) → IsOfRun answer → OnlyReads old mid Fails → (Fails → ⊥) → OnlyLeaves mid new (answer ≡ status.WriteFault) → TellsFaults old answer new
-tells_run old mid new answer Fails of took unfailed left =
-    let From : ℕ → Type 0 = λ n. Counts n new.write_faults (answer ≡ status.WriteFault) in
-    record {
-      read = no_fault old.read_faults new.read_faults (answer ≡ status.ReadFault) (left.read_faults ∙ took.cause.calm unfailed) (run_read answer of);
-      write = subst From took.write_faults left.cause;
-    }
-
-pub refusal_used : (why : Status) → IsRefusal why → why ≢ status.Usage
-refusal_used why is same = subst IsRefusal same is
-
-pub run_used : (answer : Status) → IsOfRun answer → answer ≢ status.Usage
-run_used answer of same = subst IsOfRun same of
-
-pub refusal_remembers_plan : (why : Status) → IsRefusal why → why ≢ status.PlanRefused plan.OutOfMemory
-refusal_remembers_plan why is same = subst IsRefusal same is
-
-pub run_remembers_plan : (answer : Status) → IsOfRun answer → answer ≢ status.PlanRefused plan.OutOfMemory
-run_remembers_plan answer of same = subst IsOfRun same of
-
-pub refusal_remembers : (why : Status) → IsRefusal why → why ≢ status.ImageRefused image.OutOfMemory
-refusal_remembers why is same = subst IsRefusal same is
-
-pub run_remembers : (answer : Status) → IsOfRun answer → answer ≢ status.ImageRefused image.OutOfMemory
-run_remembers answer of same = subst IsOfRun same of
-
--- What the player leaves is the outcome of its run.
-pub outcome_is : (plan : declared.Plan) (r : Reading) (setup : Setup) (player : Player) (bytes : List ℕ) (events : List Event) (tail : List TailLine)
-    → IsAt plan setup (reach setup (names_played setup r.order)) player → bytes ≡ sent_bytes (reach setup (names_played setup r.order)).devices
-    → events ≡ player.run.events.events → tail ≡ tail_of setup (reach setup (names_played setup r.order))
-    → outcome_with bytes r.trace (whole_text (settings_of setup) events tail) ≡ outcome_of_run r (shown plan).engines setup
-outcome_is plan r setup player bytes events tail at sent same_events same_tail =
-    let text = whole_text (settings_of setup) events tail in
-    ap (λ (said : List ℕ). outcome_with said r.trace text) (sent ∙ sym (console_is (shown plan).engines setup r.order))
-    ∙ ap (λ (t : List ℕ). outcome_with (console (journal_of (shown plan).engines setup r.order)) r.trace t) (sym (trace_is plan setup r.order player events tail at same_events same_tail))

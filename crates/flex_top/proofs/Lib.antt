@@ -6,9 +6,9 @@ pub mod Plans
 pub mod Told
 pub mod WordsLemmas
 pub mod Pages
-pub mod Banks
-pub mod Playing
-pub mod Rounds
+pub mod Ram
+pub mod Merged
+pub mod SameStart
+pub mod Ended
 pub mod Writing
-pub mod Starting
 pub mod Growth

@@ -1,5 +1,5 @@
 -- A plan's file that was taken, or why it wasn't.
-use Rattle.std.proofs.Common.{◌≡◌, ◌≢◌, ℕ, ◌<◌, ◌≤◌, true, if◌then◌else◌, List, length, Option, None, Some, Result, Ok, Err, refl, ap, sym, subst, ◌∙◌}
+use Rattle.std.proofs.Common.{◌≡◌, ◌≢◌, ℕ, ◌<◌, ◌≤◌, true, if◌then◌else◌, List, length, Option, None, Some, Ok, Err, refl, ap, sym, subst, ◌∙◌}
 use Rattle.flex_base.specs.Files.{Files, Taken}
 use Rattle.flex_base.specs.declared.outer.TakeFault.TheVariants as taking
 use Rattle.transplant_plan.specs.Assignment.{Assignment, default_assignment}
@@ -13,7 +13,7 @@ use Rattle.flex_top.specs.Taking.{Gives, IsRefused, IsRefusal, answer_to_plan}
 use Rattle.flex_top.specs.declared.status.Status.{Status}
 use Rattle.flex_top.specs.declared.status.Status.TheVariants as status
 use Rattle.flex_top.proofs.Doing.{file_held, told_file}
-use Rattle.flex_top.proofs.Taking.{told_taken, within, past, IsLong, long_file}
+use Rattle.flex_top.proofs.Taking.{told_taken, within, past, long_file}
 
 -- a file within the limit means what its bytes say
 plan_within : (file : List ℕ) → length file ≤ plan_limit → plan_from (Some file) ≡ plan_in file

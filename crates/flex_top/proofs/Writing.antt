@@ -1,36 +1,21 @@
 -- The text that is written is the trace of the run that was played, and what is known of each run.
-use Rattle.std.proofs.Common.{◌≡◌, ℕ, ◌+◌, ◌<◌, List, [], Some, map, refl, ap, sym, ◌∙◌}
-use Rattle.std.specs.List.{range_with_len}
-use Rattle.flex_base.specs.Place.{ram_base}
+use Rattle.std.proofs.Common.{◌≡◌, ℕ, ◌<◌, List, Some, ap, sym, ◌∙◌}
 use Rattle.flex_base.specs.Setup.{Setup}
 use Rattle.flex_base.specs.Devices.{sent_bytes}
-use Rattle.flex_base.specs.FlatMemory.{byte}
 use Rattle.transplant_plan.specs.Shown.{shown}
 use Rattle.transplant_plan.specs.declared.plan.Plan as declared
-use Rattle.flex_base.specs.Unsplit.{Machine, unsplit, reach, has_ended}
+use Rattle.flex_base.specs.Unsplit.{unsplit, reach, has_ended}
 use Rattle.flex_base.specs.Rounds.{names_played}
-use Rattle.transplant_plan.specs.Split.{Splitting, Plan, split_run, first_split}
+use Rattle.transplant_plan.specs.Split.{Plan, split}
 use Rattle.flex_base.specs.Journal.{console, strip}
-use Rattle.flex_base.specs.declared.event.Event.{Event}
 use Rattle.transplant_plan.proofs.Splits.{reach-order_of, split_legal, strip-split-unsplit}
 use Rattle.transplant_plan.proofs.Obeying.{split_obeys}
 use Rattle.flex_base.proofs.EndOfRun.{run_goes_on}
 use Rattle.transplant_plan.proofs.Splits.{console_devices}
 use Rattle.flex_top.specs.Words.{Reading}
-use Rattle.flex_top.specs.Answer.{journal_of, trace_of, IsWhole, outcome_of_run, IsLeft, SplitsAlike}
-use Rattle.flex_top.specs.Play.{IsAt}
-use Rattle.tracer.specs.Trace.{settings_of, ram_bytes, tail_of, whole_text, trace_text}
-use Rattle.flex_top.specs.declared.player.Player.{Player}
-use Rattle.tracer.specs.declared.tail_text.TailLine.{TailLine}
-
-pub split_none : (plan : Plan) (harts : ℕ) → split_run plan harts [] ≡ first_split plan harts
-unfolding split_run
-split_none plan harts = refl
-
--- the bytes of RAM, as the bank's contract says them
-pub ram_is : (setup : Setup) (u : Machine) (bytes : List ℕ) → bytes ≡ map (λ i. byte setup.image u.ram (ram_base + i)) (range_with_len 0 setup.ram) → bytes ≡ ram_bytes setup u
-unfolding ram_bytes
-ram_is setup u bytes same = same
+use Rattle.flex_top.specs.Answer.{journal_of, trace_of, IsWhole, outcome_with, outcome_of_run, IsLeft, SplitsAlike}
+use Rattle.flex_top.specs.Ended.{outcome_at}
+use Rattle.tracer.specs.Trace.{settings_of, tail_of, whole_text, trace_text}
 
 -- the trace of a run is the header, a line of each event of its journal, and the tail of the state to which it leads
 trace_text_is : (plan : Plan) (setup : Setup) (order : List ℕ)
@@ -39,20 +24,20 @@ unfolding trace_of trace_text journal_of
 trace_text_is plan setup order =
     ap (λ m. whole_text (settings_of setup) (journal_of plan setup order) (tail_of setup m)) (reach-order_of setup plan (names_played setup order))
 
--- the trace of a run, by what the player keeps
-pub trace_is : (plan : declared.Plan) (setup : Setup) (order : List ℕ) (player : Player) (events : List Event) (tail : List TailLine) → IsAt plan setup (reach setup (names_played setup order)) player
-    → events ≡ player.run.events.events → tail ≡ tail_of setup (reach setup (names_played setup order))
-    → trace_of (shown plan).engines setup order ≡ whole_text (settings_of setup) events tail
-unfolding journal_of
-trace_is plan setup order player events tail at same_events same_tail =
-    trace_text_is (shown plan).engines setup order
-    ∙ ap (whole_text (settings_of setup) (journal_of (shown plan).engines setup order)) (sym same_tail)
-    ∙ ap (λ es. whole_text (settings_of setup) es tail) (ap (λ (p : Splitting). p.events) at.run ∙ sym same_events)
-
 -- its console bytes are those that the devices have sent
 pub console_is : (plan : Plan) (setup : Setup) (order : List ℕ) → console (journal_of plan setup order) ≡ sent_bytes (reach setup (names_played setup order)).devices
 unfolding journal_of
 console_is plan setup order = console_devices setup plan (names_played setup order)
+
+-- what is left by a run that was played is its outcome
+pub outcome_is : (plan : declared.Plan) (r : Reading) (setup : Setup)
+    → outcome_at plan setup (reach setup (names_played setup r.order)) r.trace ≡ outcome_of_run r (shown plan).engines setup
+unfolding journal_of
+outcome_is plan r setup =
+    let engines = (shown plan).engines in
+    let u = reach setup (names_played setup r.order) in
+    ap (λ (said : List ℕ). outcome_with said r.trace (whole_text (settings_of setup) (split engines setup.harts u.events) (tail_of setup u))) (sym (console_is engines setup r.order))
+    ∙ ap (outcome_with (console (journal_of engines setup r.order)) r.trace) (sym (trace_text_is engines setup r.order))
 
 -- each run with a hart is whole
 pub run_whole : (plan : Plan) (setup : Setup) (order : List ℕ) → 0 < setup.harts → IsWhole plan setup order

@@ -1,11 +1,10 @@
 pub mod Words
 pub mod Written
-pub mod Memory
-pub mod Splitting
-pub mod Play
+pub mod Ram
 pub mod Status
 pub mod Answer
 pub mod Does
 pub mod Images
 pub mod Taking
 pub mod Ready
+pub mod Ended

@@ -9,7 +9,7 @@ ghost use Rattle.flex_top.specs.Written.{OnlyLeaves};
 use crate::pieces::Pieces;
 use crate::trace_file::write_trace;
 use flex_base::{Failed, Outer, Settings};
-use journal::HartLog;
+use journal::ByNumber;
 use tracer::TailLine;
 
 /// Says the bytes of the console, and then writes the trace. It takes no memory.
@@ -21,14 +21,14 @@ pub(crate) fn leave<O: Outer>(
     name: &str,
     pieces: &mut Pieces,
     settings: &Settings,
-    events: &HartLog,
+    events: ByNumber<'_>,
     tail: &[TailLine],
 ) -> Result<(), Failed>
     ensures ok { OnOk result (Leaves
-        (outcome_with console.now name.now (whole_text settings.now events.now.events tail.now))
+        (outcome_with console.now name.now (whole_text settings.now events.entry tail.now))
         (O.outside outer.old) (O.outside outer.new)) }
     ensures err { OnErr result (LeavesPart
-        (outcome_with console.now name.now (whole_text settings.now events.now.events tail.now))
+        (outcome_with console.now name.now (whole_text settings.now events.entry tail.now))
         (O.outside outer.old) (O.outside outer.new)) }
     ensures others { Writes (O.outside outer.old) (O.outside outer.new) name.now (λ was is. Unit {0}) }
     ensures frame { OnlyLeaves (O.outside outer.old) (O.outside outer.new) (IsErr result) }

@@ -7,13 +7,11 @@
 
 mod image;
 mod leaving;
-mod memory;
 mod pieces;
-mod player;
 mod prepared;
-mod solo;
+mod ram_digest;
+mod solo_command;
 mod sources;
-mod split_run;
 mod status;
 mod top;
 mod trace_file;

@@ -6,7 +6,7 @@ ghost use Rattle.transplant_plan.specs.Split.{Plan};
 ghost use Rattle.flex_top.specs.Answer.{IsWhole, SplitsAlike};
 ghost use Rattle.flex_top.specs.Does.{Does, TellsFaults};
 
-use crate::solo::solo;
+use crate::solo_command::solo;
 use crate::sources::{take_image, take_input, take_plan};
 use crate::status::Status;
 use crate::words::read_words;

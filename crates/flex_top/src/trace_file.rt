@@ -8,25 +8,25 @@ ghost use Rattle.flex_top.specs.Written.{Passes, PassesPart, Becomes, BecomesPar
 
 use crate::pieces::Pieces;
 use flex_base::{Failed, Outer, Settings};
-use journal::HartLog;
+use journal::ByNumber;
 use tracer::{Number, TailLine, put_header, put_kept, put_tail_line};
 
 /// Makes the file of this name the text of a trace, written in pieces. It takes no memory.
 ///
-/// The events are in the order of their numbers. Where it fails, the file is as it was, or the
+/// Where it fails, the file is as it was, or the
 /// first bytes of the text.
 pub fn write_trace<O: Outer>(
     outer: &mut O,
     name: &str,
     pieces: &mut Pieces,
     settings: &Settings,
-    events: &HartLog,
+    events: ByNumber<'_>,
     tail: &[TailLine],
 ) -> Result<(), Failed>
     ensures ok { OnOk result (Writes (O.outside outer.old) (O.outside outer.new) name.now
-        (Becomes (whole_text settings.now events.now.events tail.now))) }
+        (Becomes (whole_text settings.now events.entry tail.now))) }
     ensures err { OnErr result (Writes (O.outside outer.old) (O.outside outer.new) name.now
-        (BecomesPart (whole_text settings.now events.now.events tail.now))) }
+        (BecomesPart (whole_text settings.now events.entry tail.now))) }
     ensures frame { OnlyWrites (O.outside outer.old) (O.outside outer.new) (IsErr result) }
 {
     outer.start(name)?;
@@ -43,18 +43,18 @@ fn add_events<O: Outer>(
     outer: &mut O,
     name: &str,
     pieces: &mut Pieces,
-    events: &HartLog,
+    events: ByNumber<'_>,
 ) -> Result<(), Failed>
     requires { length pieces.old < 65536 }
     ensures ok { OnOk result (Passes (O.outside outer.old) (O.outside outer.new) name.now
-        pieces.old pieces.new (flat_map event_text events.now.events)) }
+        pieces.old pieces.new (flat_map event_text events.entry)) }
     ensures err { OnErr result (PassesPart (O.outside outer.old) (O.outside outer.new) name.now
-        pieces.old (flat_map event_text events.now.events)) }
+        pieces.old (flat_map event_text events.entry)) }
     ensures room { OnOk result (length pieces.new < 65536) }
     ensures frame { OnlyWrites (O.outside outer.old) (O.outside outer.new) (IsErr result) }
 {
     let mut number = Number::of(0);
-    for event in events.kept_events() {
+    for event in events {
         put_kept(&event, &mut number, pieces);
         pieces.write_full(outer, name)?;
     }

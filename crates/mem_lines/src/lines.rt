@@ -1,8 +1,9 @@
-ghost use Rattle.std.specs.Prelude.{◌≡◌, ℕ, ◌+◌, ◌*◌, ◌^◌, ◌<◌, ◌≤◌, ◌⊎◌, ◌↔◌, true, ◌==◌, if◌then◌else◌, List, [], length, map, IfOk};
+ghost use Rattle.std.specs.Prelude.{◌≡◌, ℕ, ◌+◌, ◌*◌, ◌^◌, ◌<◌, ◌≤◌, ◌⊎◌, ◌↔◌, true, ◌==◌, if◌then◌else◌, List, [], length, map, slice_index, IfOk};
 ghost use Rattle.std.specs.List.{range_with_len};
 ghost use Rattle.flex_base.specs.Limits.{is_lawful};
 ghost use Rattle.flex_base.specs.Loaded.{image_fits};
 ghost use Rattle.flex_base.specs.Place.{ram_base};
+ghost use Rattle.flex_base.specs.Word.{is_multiple};
 ghost use Rattle.flex_base.specs.Setup.{Setup};
 ghost use Rattle.flex_base.specs.Forms.{HasForm};
 ghost use Rattle.flex_base.specs.Unsplit.{with_access};
@@ -131,6 +132,28 @@ impl Lines {
             → result.now ≡ map (λ i. memory.byte setup.image made (ram_base + i)) (range_with_len 0 setup.ram) }
     {
         self.bytes.as_slice()
+    }
+
+    /// The 64 bytes of the line of this bank that begins at this address.
+    #[inline]
+    pub fn line(&self, address: u64) -> &[u8]
+        requires inside { IsIn self.now address }
+        requires begins { is_multiple address 64 ≡ true }
+        ensures size { length result.now ≡ 64 }
+        ensures bytes { (i : ℕ) → i < 64 → slice_index result.now i ≡ byte_held self.now (address + i) }
+    {
+        let start = self.line_start(address);
+        &self.bytes[start..start + 64]
+    }
+
+    // Where the bytes of a line begin.
+    fn line_start(&self, address: u64) -> usize
+        requires inside { IsIn self.now address }
+        requires begins { is_multiple address 64 ≡ true }
+        ensures start { result ≡ offset self.now.banks address }
+        ensures within { result + 64 ≤ length self.now.bytes }
+    {
+        offset(self.banks, address)
     }
 
     // Where the bytes of an access begin.

@@ -22,7 +22,7 @@ use Rattle.access_record.specs.Logs.{IsRecord, sum_below}
 use Rattle.access_record.specs.Passes.{PassOfHart, PassOfBank, AreRecord, EachHasPass, logs_of, bank_logs_of}
 use Rattle.access_record.specs.Buses.{ram_banks, events_of}
 use Rattle.access_record.proofs.Totals.{sum_below-same}
-use Rattle.mem_lines.specs.Bank.{Bank, IsBank, IsReplay}
+use Rattle.mem_lines.specs.Bank.{Bank, is_bank_count, IsBank, IsReplay}
 use Rattle.devices.specs.View as devices
 use Rattle.devices.specs.View.{DevicesView}
 use Rattle.transplant_plan.specs.Split.{split}
@@ -192,7 +192,9 @@ module _ (setup : Setup) (u : Machine) (s : Solo) (at : IsAt setup u s) (memory 
     memory_end left same_lines same_devices settled =
         let Lines : List Bank → Type 0 = λ bs. (bank : ℕ) (b : Bank) → bank < length bs → HoldsRam setup u (length bs) bank (get_or bs bank b) in
         let Replay : DevicesView → Type 0 = λ x. devices.IsReplay setup.harts setup.input u.devices x in
+        let Counted : ℕ → Type 0 = λ n. is_bank_count n ≡ true in
         record {
+          counted = subst Counted (sym (ap (λ (bs : List Bank). length bs) same_lines ∙ of.counted)) at.memory.counted;
           lines = subst Lines (sym same_lines) (lines_end setup u s.bus memory at.memory of history);
           devices = subst Replay (sym same_devices) (devices_end setup u s.bus memory at.memory of history);
           keeps = ap (λ (d : DevicesView). d.console.keeps) same_devices ∙ of.devices.keeps;

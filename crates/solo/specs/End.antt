@@ -11,7 +11,7 @@ use Rattle.flex_base.specs.declared.event.Event.{Event}
 use Rattle.hart_story.specs.StandsFor.{StandsFor}
 use Rattle.hart_story.specs.declared.hart.Hart.{Hart}
 use Rattle.journal.specs.Log.{Log, all_events}
-use Rattle.mem_lines.specs.Bank.{Bank, IsBank, IsIn, byte_held}
+use Rattle.mem_lines.specs.Bank.{Bank, is_bank_count, IsBank, IsIn, byte_held}
 use Rattle.devices.specs.View.{IsReplay}
 use Rattle.transplant_plan.specs.Split.{split}
 use Rattle.transplant_plan.specs.declared.plan.Plan.{Plan}
@@ -34,7 +34,9 @@ pub record HoldsRam (setup : Setup) (u : Machine) (banks bank : ℕ) (b : Bank) 
   pub is_bank : IsBank setup.ram banks bank b
   pub each : (address : ℕ) → IsIn b address → byte_held b address ≡ byte setup.image u.ram address
 
+-- the banks of RAM, which may be so many, and the devices are as the machine's accesses have left them
 pub record IsMemoryAt (setup : Setup) (u : Machine) (memory : Memory) : Type 0 where
+  pub counted : is_bank_count (length memory.lines) ≡ true
   pub lines : (bank : ℕ) (b : Bank) → bank < length memory.lines
       → HoldsRam setup u (length memory.lines) bank (slice_index_or memory.lines bank b)
   pub devices : IsReplay setup.harts setup.input u.devices memory.devices

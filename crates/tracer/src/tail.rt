@@ -1,5 +1,4 @@
 ghost use Rattle.std.specs.Prelude.{◌≡◌, ◌<◌, slice_index};
-ghost use Rattle.sha2.specs.Sha256.{sha256};
 ghost use Rattle.flex_base.specs.State.{State};
 ghost use Rattle.hart_story.specs.StandsFor.{StandsFor};
 ghost use Rattle.tracer.specs.Tail.{state_line, register_line, csr_line, csr_value};
@@ -7,7 +6,6 @@ ghost use Rattle.tracer.specs.Tail.{state_line, register_line, csr_line, csr_val
 use crate::tail_text::TailLine;
 use flex_base::{HartId, Mode, Stop};
 use hart_story::Hart;
-use sha2::{Digest, Sha256};
 use std::alloc::{AllocError, Global};
 use std::marker::Model;
 
@@ -38,8 +36,9 @@ impl Model for Tail {
 }
 
 impl Tail {
-    ghost use Rattle.std.specs.Prelude.{◌≡◌, ◌+◌, ◌≤◌, ◌<◌, ℕ, [], ◌∷◌, ◌++◌, length, IfOk};
+    ghost use Rattle.std.specs.Prelude.{◌≡◌, ◌+◌, ◌≤◌, ◌<◌, ℕ, List, [], ◌∷◌, ◌++◌, length, IfOk};
     ghost use Rattle.std.specs.List.{cons_option};
+    ghost use Rattle.sha2.specs.Sha256.{sha256};
     ghost use Rattle.flex_base.specs.State.{State};
     ghost use Rattle.hart_story.specs.StandsFor.{StandsFor};
     ghost use Rattle.tracer.specs.Tail.{AllStand, stop_lines, hart_lines, tail_lines};
@@ -61,17 +60,17 @@ impl Tail {
     }
 
     /// Makes these the lines of a state: why the run ended, if it has; the harts in the order of
-    /// their numbers, at most 32; and all bytes of RAM.
-    pub fn fill(&mut self, stop: Option<Stop>, harts: &[Hart], ram: &[u8])
+    /// their numbers, at most 32; and the SHA-256 of all bytes of RAM.
+    pub fn fill(&mut self, stop: Option<Stop>, harts: &[Hart], digest: [u8; 32])
         requires { length harts.now ≤ 32 }
-        ensures { (state : ℕ → State) → AllStand harts.now state
-            → self.new ≡ tail_lines stop (length harts.now) state ram.now }
+        ensures { (state : ℕ → State) (ram : List ℕ) → AllStand harts.now state → digest ≡ sha256 ram
+            → self.new ≡ tail_lines stop (length harts.now) state ram }
     {
         self.begin(stop);
         for (h, hart) in harts.iter().enumerate() {
             self.push_hart(HartId(h as u8), hart);
         }
-        self.push(ram_line(ram));
+        self.push(TailLine::Ram(digest));
         self.push(TailLine::Done);
     }
 
@@ -158,12 +157,6 @@ fn csr_line(hart_id: HartId, hart: &Hart, number: u16) -> Option<TailLine>
         number,
         value,
     })
-}
-
-fn ram_line(ram: &[u8]) -> TailLine
-    ensures { result ≡ TailLine.Ram (sha256 ram.now) }
-{
-    TailLine::Ram(Sha256::digest(ram))
 }
 
 // As it is read in mode M. The time isn't shown, so it doesn't matter.

@@ -1,7 +1,7 @@
 use super::*;
 use crate::trace_file::write_trace;
 use flex_base::{HartId, MemoryOuter, Settings};
-use journal::HartLog;
+use journal::{HartLog, by_number};
 use std::alloc::{AllocError, Global};
 use std::test::Fail;
 use tracer::TailLine;
@@ -35,14 +35,15 @@ fn write_lines(alloc: Global, failing: &[u64]) -> Result<(MemoryOuter, bool), Al
     let failing = Vec::from_slice(alloc, failing)?;
     let mut outer = MemoryOuter::new(alloc, Vec::new(alloc), failing);
     let mut pieces = Pieces::new(alloc)?;
-    let events = HartLog::new(alloc, 0)?;
+    let logs = [HartLog::new(alloc, 0)?];
     let tail = lines(alloc)?;
     let settings = Settings {
         harts: 1,
         ram: 1 << 20,
         budget: 1,
     };
-    let done = write_trace(&mut outer, "out", &mut pieces, &settings, &events, &tail).is_ok();
+    let events = by_number(logs.as_slice());
+    let done = write_trace(&mut outer, "out", &mut pieces, &settings, events, &tail).is_ok();
     Ok((outer, done))
 }
 

@@ -1,6 +1,8 @@
 use super::*;
 use flex_base::{Engine, Event, HartId, MemoryOuter, Stop, What};
 use hart_story::Hart;
+use journal::{HartLog, by_number};
+use sha2::{Digest, Sha256};
 use std::alloc::{AllocError, Global};
 use std::test::Fail;
 use tracer::Tail;
@@ -35,26 +37,27 @@ fn write_small(alloc: Global, failing: &[u64]) -> Result<(MemoryOuter, bool), Al
     tail.fill(
         Some(Stop::Off(7)),
         &[first, Hart::start(HartId(1), 0x8000_0000)],
-        b"abc",
+        Sha256::digest(b"abc"),
     );
     let settings = Settings {
         harts: 2,
         ram: 1 << 20,
         budget: 3,
     };
-    let mut events = HartLog::new(alloc, 1)?;
-    events.push(Event {
+    let mut log = HartLog::new(alloc, 1)?;
+    log.push(Event {
         number: 0,
         hart: HartId(1),
         engine: Engine::Pipe,
         what: What::Handover(Engine::Kernel),
     });
+    let logs = [HartLog::new(alloc, 0)?, log];
     let done = write_trace(
         &mut outer,
         "out",
         &mut pieces,
         &settings,
-        &events,
+        by_number(logs.as_slice()),
         tail.lines(),
     )
     .is_ok();

@@ -1,5 +1,5 @@
 -- The files are those that the words name, and the run is theirs.
-use Rattle.std.proofs.Common.{◌≡◌, ℕ, List, Option, None, Some, Vec, Global, refl, ap, sym, subst, ◌∙◌}
+use Rattle.std.proofs.Common.{◌≡◌, ℕ, List, Option, Some, Vec, Global, subst, ◌∙◌}
 use Rattle.flex_base.specs.Files.{Files}
 use Rattle.flex_base.specs.Loaded.{Loaded}
 use Rattle.flex_base.specs.declared.image.Image.{Image}
@@ -10,7 +10,7 @@ use Rattle.flex_top.specs.Answer.{image_from, input_from}
 use Rattle.flex_top.specs.Does.{Does}
 use Rattle.flex_top.specs.Taking.{Gives, IsRefused}
 use Rattle.flex_top.specs.Words.{Reading, reading_of_command}
-use Rattle.flex_top.proofs.Doing.{reads_after, read_failed, does_refuse_plan, does_refuse_image, does_refuse_input, does_run, tells_refusal, tells_run, run_used, run_remembers, refusal_used, refusal_remembers, run_remembers_plan, refusal_remembers_plan}
+use Rattle.flex_top.proofs.Doing.{reads_after, read_failed, does_refuse_plan, does_refuse_image, does_refuse_input, does_run}
 use Rattle.flex_top.proofs.Writing.{run_whole, splits_alike}
 use Rattle.flex_top.proofs.top.flex_top.Goals as goal
 

@@ -8,7 +8,7 @@ use Rattle.flex_top.proofs.trace_file.add_events.Given as goal
 -- the lines so far are written or held, there is room for one more, and nothing failed
 abbrev pub invariant-loop-event : goal.invariant-loop-event
 invariant-loop-event g l = record {
-  come : l.yielded ++ l.event-iterator ≡ l.events.events;
+  come : l.yielded ++ l.event-iterator ≡ l.fn.events;
   passes : Passes (g.O.Outer.outside l.fn.outer) (g.O.Outer.outside l.outer) l.name l.fn.pieces l.pieces (flat_map event_text l.yielded);
   room : length l.pieces < 65536;
   frame : OnlyWrites (g.O.Outer.outside l.fn.outer) (g.O.Outer.outside l.outer) ⊥;
