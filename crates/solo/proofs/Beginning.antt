@@ -36,7 +36,7 @@ use Rattle.solo.specs.Solo.{setup_of, solo_of, engines_of}
 use Rattle.solo.specs.Standing.{IsHart, IsAt, Serves, of_bank}
 use Rattle.solo.specs.Begun.{IsBegun, AreBegun}
 use Rattle.solo.specs.Room.{are_empty}
-use Rattle.solo.proofs.Merging.{of_hart-none}
+use Rattle.journal.proofs.Merging.{of_hart-none}
 
 -- The number of banks of a plan.
 

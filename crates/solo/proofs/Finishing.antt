@@ -34,11 +34,12 @@ use Rattle.mem_banks.specs.declared.ended.Ended.{Ended}
 use Rattle.context.specs.Contexts as context
 use Rattle.context.specs.Contexts.{Context, IsContext, events_in}
 use Rattle.solo.specs.Solo.{Solo, engines_of, done_at}
-use Rattle.solo.specs.Rising.{Rises, numbered_from, of_hart}
+use Rattle.journal.specs.Merged.{of_hart}
+use Rattle.solo.specs.Rising.{Rises, numbered_from}
 use Rattle.solo.specs.Standing.{of_bank, Serves, IsAt}
-use Rattle.solo.specs.End.{AreLogsOf, HoldsRam, IsMemoryAt, IsEnd}
+use Rattle.solo.specs.End.{AreHartLogs, HoldsRam, IsMemoryAt, IsEnd}
 use Rattle.solo.proofs.Flat.{byte_of_part}
-use Rattle.solo.proofs.Merging.{merged_parts}
+use Rattle.solo.proofs.Parts.{all_of_harts}
 use Rattle.solo.proofs.Ending.{AreBelow, ascends_below, numbers_known}
 use Rattle.solo.proofs.Taking.{AllHave}
 use Rattle.solo.proofs.Settling.{passes_of, AreNumbered, log_at, each_pass, all_passes}
@@ -98,7 +99,7 @@ module _ (setup : Setup) (u : Machine) (s : Solo) (at : IsAt setup u s) where
 
     -- the logs of the contexts are those of the journal
     pub logs_end : AllHave IsContext s.contexts
-        → AreLogsOf setup.harts journal (map (λ (c : Context). c.log) s.contexts)
+        → AreHartLogs setup.harts journal (map (λ (c : Context). c.log) s.contexts)
     logs_end are =
         let logs = map (λ (c : Context). c.log) s.contexts in
         let count : length logs ≡ setup.harts = length-map s.contexts (λ (c : Context). c.log) ∙ at.counted in
@@ -106,9 +107,18 @@ module _ (setup : Setup) (u : Machine) (s : Solo) (at : IsAt setup u s) where
         ap (λ (l : Log). l.events) (get_or-map (λ (c : Context). c.log) s.contexts h any other (within h below))
         ∙ (are h any (within h below)).whole ∙ (at.each h any below).events in
         let Numbered : List Event → Type 0 = λ es. numbers_of es ≡ range_with_len 0 (length es) in
-        let Of : List Event → Type 0 = λ es. AreLogsOf setup.harts es logs in
+        let Of : List Event → Type 0 = λ es. AreHartLogs setup.harts es logs in
         let numbers = subst Numbered (sym journal_made) legal.numbers in
-        subst Of journal_made (merged_parts setup.harts at.made logs known.1 at.are_made.harts_are numbers count each)
+        let Below : ℕ → Type 0 = λ n. All (λ (e : Event). e.hart.0 < n) at.made in
+        subst Of journal_made (record {
+          counted = count;
+          parts = record {
+            few = omega (arith, count, at.few);
+            numbers = numbers;
+            harts = subst Below (sym count) (all_of_harts setup.harts at.made at.are_made.harts_are);
+            each = λ h other below. each h other (omega (arith, below, count));
+          };
+        })
 
   -- the harts are where the machine's are
   pub harts_end : AllHave IsContext s.contexts
@@ -210,7 +220,7 @@ pub is_end : (setup : Setup) (u : Machine) (s : Solo) (plan : Plan) (n : ℕ) (p
 is_end setup u s plan n passes ds ended at plan_is are harts logs taken closed stop memory =
     let Closed : List PassOfHart → Type 0 = λ ps. AreRecord s.bus.run.book.limits n ps ds in
     let Harts : List Hart → Type 0 = λ hs. (h : ℕ) (other : Hart) → h < setup.harts → StandsFor (get_or hs h other) (instruction_at u h).state in
-    let Logs : Plan × List Log → Type 0 = λ x. AreLogsOf setup.harts (split (engines_of x.0) setup.harts u.events) x.1 in
+    let Logs : Plan × List Log → Type 0 = λ x. AreHartLogs setup.harts (split (engines_of x.0) setup.harts u.events) x.1 in
     record {
       stop_is = stop;
       counted = ap (λ (hs : List Hart). length hs) harts ∙ length-map s.contexts (λ (c : Context). c.hart) ∙ at.counted;

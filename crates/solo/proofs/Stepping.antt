@@ -21,7 +21,8 @@ use Rattle.mem_banks.specs.Plain.{Plain}
 use Rattle.mem_banks.specs.End.{IsFounderOf}
 use Rattle.context.specs.Contexts.{Context, IsOn, IsSame, events_in}
 use Rattle.solo.specs.Solo.{Solo, engines_of, least_in}
-use Rattle.solo.specs.Rising.{Rises, of_hart}
+use Rattle.journal.specs.Merged.{of_hart}
+use Rattle.solo.specs.Rising.{Rises}
 use Rattle.solo.specs.Standing.{IsReached, Serves, IsMade, IsHart, AreEnrolled, Holds}
 use Rattle.solo.proofs.Rising.{rises_push, numbered_more, harts_push}
 use Rattle.solo.proofs.Standing.{hart_read}
