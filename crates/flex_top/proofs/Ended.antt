@@ -40,10 +40,10 @@ module _ (plan : Plan) (setup : Setup) (u : Machine) (ended : Ended) (end : IsEn
       subst Of (sym same) (logs_are setup.harts (split (shown plan).engines setup.harts u.events) ended.logs.items few end.logs)
 
   -- the banks hold RAM
-  pub banks_left : (ram : ℕ) (banks : List Bank) → setup.ram ≡ ram → banks ≡ ended.memory.lines → AreBanks setup u ram banks
-  banks_left ram banks size same =
-      let Are : List Bank → Type 0 = λ bs. AreBanks setup u ram bs in
-      subst Are (sym same) (record { size = size; counted = end.memory.counted; each = end.memory.lines })
+  pub banks_left : (banks : List Bank) → banks ≡ ended.memory.lines → AreBanks setup u banks
+  banks_left banks same =
+      let Are : List Bank → Type 0 = λ bs. AreBanks setup u bs in
+      subst Are (sym same) (record { counted = end.memory.counted; each = end.memory.lines })
 
   -- the lines after the events are those of the state
   pub tail_left : (stop : Stop) (harts : List Hart) (digest : List ℕ) (tail : List TailLine) → stop ≡ ended.stop → harts ≡ ended.harts.items → digest ≡ sha256 (ram_bytes setup u)
@@ -70,14 +70,16 @@ outcome_left plan setup u settings name console events tail of sent journal tail
     ∙ ap (λ (es : List Event). outcome_with (sent_bytes u.devices) name (whole_text (settings_of setup) es tail)) journal
     ∙ ap (λ (t : List TailLine). outcome_with (sent_bytes u.devices) name (whole_text (settings_of setup) (split (shown plan).engines setup.harts u.events) t)) tail_is
 
--- that of an order and the rounds after it is the outcome of the run of each image with the same start
+-- where an order and the rounds after it lead
+abbrev pub played : Setup → List ℕ → Machine
+played setup order = reach_from setup (reach setup order) (rounds setup (reach setup order))
+
+-- that is the outcome of the run of each image with the same start
 pub outcome_played : (given plan : Plan) (r : Reading) (start image : Loaded) (input : List ℕ) (settings : Settings) (order : List ℕ) → given ≡ plan → IsSameStart start image → order ≡ r.order
-    → outcome_at given (setup_of image input settings)
-    (reach_from (setup_of image input settings) (reach (setup_of image input settings) order) (rounds (setup_of image input settings) (reach (setup_of image input settings) order))) r.trace
-    ≡ outcome_of_run r (shown plan).engines (setup_of start input settings)
+    → outcome_at given (setup_of image input settings) (played (setup_of image input settings) order) r.trace ≡ outcome_of_run r (shown plan).engines (setup_of start input settings)
 outcome_played given plan r start image input settings order planned same names =
     let setup = setup_of image input settings in
-    ap (λ (p : Plan). outcome_at p setup (reach_from setup (reach setup order) (rounds setup (reach setup order))) r.trace) planned
+    ap (λ (p : Plan). outcome_at p setup (played setup order) r.trace) planned
     ∙ ap (λ (u : Machine). outcome_at plan setup u r.trace) (sym (reach-append setup (begin setup) order (rounds setup (reach setup order))))
     ∙ ap (λ (ns : List ℕ). outcome_at plan setup (reach setup (names_played setup ns)) r.trace) names
     ∙ sym (outcome_same start image input settings same plan r.order r.trace)

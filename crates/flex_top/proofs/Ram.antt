@@ -64,19 +64,25 @@ aligned address n is = (Decides-eqb (address % n) 0).0 is
 pub whole_lines : (ram : ℕ) → is_multiple ram 64 ≡ true → 64 * (ram / 64) ≡ ram
 whole_lines ram is = let none = aligned ram 64 is in omega (arith, none)
 
+-- a line of this number is in RAM
+pub line_inside : (ram whole line : ℕ) → whole ≡ ram → line < ram / 64 → in_ram whole (ram_base + 64 * line) 64 ≡ true
+line_inside ram whole line size below =
+    let under : ram_base + 64 * line + 64 ≤ ram_base + whole = omega (arith, size, below) in
+    grind (arith, nat_tests, under)
+
 -- the line that begins at this address is in the bank that its number names
-pub line_here : (setup : Setup) (u : Machine) (ram address i : ℕ) (banks : List Bank) (b : Bank) → AreBanks setup u ram banks
-    → get_or banks (bank_of (length banks) address) b ≡ b → is_multiple address 64 ≡ true → in_ram ram address 64 ≡ true → i < 64
+pub line_here : (setup : Setup) (u : Machine) (address i : ℕ) (banks : List Bank) (b : Bank) → AreBanks setup u banks
+    → get_or banks (bank_of (length banks) address) b ≡ b → is_multiple address 64 ≡ true → in_ram setup.ram address 64 ≡ true → i < 64
     → HoldsRam setup u (length banks) (bank_of (length banks) address) b × IsIn b (address + i)
-line_here setup u ram address i banks b are item begins inside below =
+line_here setup u address i banks b are item begins inside below =
     let bank = bank_of (length banks) address in
     let within : bank < length banks = mod_below (address / 64) (length banks) (some_banks (length banks) are.counted) in
     let Held : Bank → Type 0 = λ x. HoldsRam setup u (length banks) bank x in
     let held = subst Held item (are.each bank b within) in
     let at = aligned address 64 begins in
     let above : ram_base ≤ address = grind (arith, nat_tests, inside) in
-    let under : address + 64 ≤ ram_base + ram = grind (arith, nat_tests, inside) in
-    let size : b.ram ≡ ram = held.is_bank.ram_is ∙ are.size in (
+    let under : address + 64 ≤ ram_base + setup.ram = grind (arith, nat_tests, inside) in
+    let size : b.ram ≡ setup.ram = held.is_bank.ram_is in (
       held,
       record {
         ram = grind (arith, nat_tests, above, under, size, below);

@@ -11,9 +11,8 @@ use Rattle.solo.specs.End.{HoldsRam}
 unfoldable pub bytes_from : Setup → Machine → ℕ → ℕ → List ℕ
 bytes_from setup u address count = map (λ i. byte setup.image u.ram (address + i)) (range_with_len 0 count)
 
--- together these banks hold RAM, of so many bytes, as it is in this state
-pub record AreBanks (setup : Setup) (u : Machine) (ram : ℕ) (banks : List Bank) : Type 0 where
-  pub size : setup.ram ≡ ram
+-- together these banks hold RAM as it is in this state
+pub record AreBanks (setup : Setup) (u : Machine) (banks : List Bank) : Type 0 where
   pub counted : is_bank_count (length banks) ≡ true
   pub each : (bank : ℕ) (b : Bank) → bank < length banks
       → HoldsRam setup u (length banks) bank (slice_index_or banks bank b)

@@ -18,22 +18,23 @@ const LINE: u64 = 64;
 pub(crate) fn ram_digest(banks: &[Lines], ram: u64) -> [u8; 32]
     requires size { ram ≤ 268435456 }
     requires lines { is_multiple ram 64 ≡ true }
-    requires banks { (setup : Setup) × (u : Machine) × AreBanks setup u ram banks.now }
-    ensures { (setup : Setup) (u : Machine) → AreBanks setup u ram banks.now → result ≡ sha256 (ram_bytes setup u) }
+    requires banks { (setup : Setup) × (u : Machine) × (setup.ram ≡ ram) × AreBanks setup u banks.now }
+    ensures { (setup : Setup) (u : Machine) → setup.ram ≡ ram → AreBanks setup u banks.now → result ≡ sha256 (ram_bytes setup u) }
 {
     let mut hasher = Sha256::new();
     for line in 0..ram / LINE {
-        hasher.update(line_at(banks, RAM_BASE + LINE * line, ram));
+        hasher.update(line_at(banks, RAM_BASE + LINE * line));
     }
     hasher.finalize()
 }
 
 // The bytes of the line that begins at this address of RAM. The lines are dealt to the banks in turn.
 #[inline(always)]
-fn line_at(banks: &[Lines], address: u64, ram: u64) -> &[u8]
-    requires line { (is_multiple address 64 ≡ true) × (in_ram ram address 64 ≡ true) }
-    requires banks { (setup : Setup) × (u : Machine) × AreBanks setup u ram banks.now }
-    ensures { (setup : Setup) (u : Machine) → AreBanks setup u ram banks.now → result.now ≡ bytes_from setup u address 64 }
+fn line_at(banks: &[Lines], address: u64) -> &[u8]
+    requires begins { is_multiple address 64 ≡ true }
+    requires banks { (setup : Setup) × (u : Machine) × AreBanks setup u banks.now × (in_ram setup.ram address 64 ≡ true) }
+    ensures { (setup : Setup) (u : Machine) → AreBanks setup u banks.now → in_ram setup.ram address 64 ≡ true
+        → result.now ≡ bytes_from setup u address 64 }
 {
     let bank = address / LINE % banks.len() as u64;
     banks[bank as usize].line(address)

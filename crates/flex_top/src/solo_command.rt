@@ -2,9 +2,10 @@ ghost use Rattle.std.specs.Prelude.{◌≡◌, ◌≢◌, true, Ok, OnOk, OnErr,
 ghost use Rattle.flex_base.specs.Loaded.{Loaded, image_fits};
 ghost use Rattle.flex_base.specs.Outside.{Writes};
 ghost use Rattle.flex_base.specs.Setup.{Setup};
-ghost use Rattle.flex_base.specs.Unsplit.{Machine};
+ghost use Rattle.flex_base.specs.Unsplit.{Machine, begin, reach};
 ghost use Rattle.image_loader.specs.Loading.{IsSameStart};
 ghost use Rattle.solo.specs.End.{IsEnd};
+ghost use Rattle.solo.specs.Standing.{IsAt, IsPlayedOut};
 ghost use Rattle.tracer.specs.Trace.{settings_of};
 ghost use Rattle.transplant_plan.specs.Shown.{shown};
 ghost use Rattle.flex_top.specs.Answer.{setup_of, outcome_of_run};
@@ -23,6 +24,7 @@ use crate::words::Command;
 use flex_base::{Failed, Image, Outer};
 use journal::by_number;
 use mem_banks::Ended;
+use solo::SoloMachine;
 use std::alloc::Global;
 use tracer::Tail;
 use transplant_plan::Plan;
@@ -61,8 +63,7 @@ pub(crate) fn solo<O: Outer>(
         Ok(prepared) => prepared,
         Err(_) => return Status::OutOfMemory,
     };
-    machine.play(&order);
-    machine.play_out();
+    play(&mut machine, &order);
     let ended = machine.finish();
     let left = leave_run(outer, command, &ended, &mut pieces, &mut tail);
     ended.discard();
@@ -70,6 +71,16 @@ pub(crate) fn solo<O: Outer>(
         Ok(()) => Status::Ended,
         Err(Failed) => Status::WriteFault,
     }
+}
+
+// Plays the order, and then the rounds.
+fn play(machine: &mut SoloMachine, order: &[u8])
+    requires at { (setup : Setup) × IsAt setup (begin setup) machine.old }
+    ensures at { (setup : Setup) → IsAt setup (begin setup) machine.old → IsPlayedOut setup (reach setup order.now) machine.new }
+    ensures plan { machine.new.plan ≡ machine.old.plan }
+{
+    machine.play(order);
+    machine.play_out();
 }
 
 // Says what a run that has ended sent to the console, and writes its trace.

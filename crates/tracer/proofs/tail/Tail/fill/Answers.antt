@@ -40,14 +40,15 @@ push-requires-2 c = omega (arith, c.push.ensures.room, c.loop-h.invariant.room, 
 
 pub returns : goal.returns
 unfolding tail_lines
-returns c = λ state stand.
+returns c = λ state ram stand is.
     let harts = length c.args.harts.now in
     let text : ℕ → List TailLine = λ n. hart_lines n (state n) in
     let all : c.loop-h.h ≡ harts = omega arith in
     let last : TailLine → List TailLine → List TailLine = λ t ys. ys ++ t ∷ [] in
+    let digest = tail.Ram c.args.digest in
     c.push-2.ensures.line
-    ∙ ap (last tail.Done) (c.push.ensures.line ∙ ap (last c.ram_line.result) (c.loop-h.invariant.lines state stand))
-    ∙ append_assoc (c.begin.new.self ++ flat_map text (range_with_len 0 c.loop-h.h)) (c.ram_line.result ∷ []) (tail.Done ∷ [])
-    ∙ ap (λ (t : TailLine). c.begin.new.self ++ flat_map text (range_with_len 0 c.loop-h.h) ++ t ∷ tail.Done ∷ []) c.ram_line.ensures
-    ∙ ap (λ (n : ℕ). c.begin.new.self ++ flat_map text (range_with_len 0 n) ++ tail.Ram (sha256 c.args.ram.now) ∷ tail.Done ∷ []) all
-    ∙ ap (λ (ys : List TailLine). ys ++ flat_map text (range_with_len 0 harts) ++ tail.Ram (sha256 c.args.ram.now) ∷ tail.Done ∷ []) c.begin.ensures.lines
+    ∙ ap (last tail.Done) (c.push.ensures.line ∙ ap (last digest) (c.loop-h.invariant.lines state stand))
+    ∙ append_assoc (c.begin.new.self ++ flat_map text (range_with_len 0 c.loop-h.h)) (digest ∷ []) (tail.Done ∷ [])
+    ∙ ap (λ (d : List ℕ). c.begin.new.self ++ flat_map text (range_with_len 0 c.loop-h.h) ++ tail.Ram d ∷ tail.Done ∷ []) is
+    ∙ ap (λ (n : ℕ). c.begin.new.self ++ flat_map text (range_with_len 0 n) ++ tail.Ram (sha256 ram) ∷ tail.Done ∷ []) all
+    ∙ ap (λ (ys : List TailLine). ys ++ flat_map text (range_with_len 0 harts) ++ tail.Ram (sha256 ram) ∷ tail.Done ∷ []) c.begin.ensures.lines
