@@ -428,8 +428,8 @@ wanted_moved run before after to old new moved same w =
 -- An end.
 
 -- what the end leads to, in each run in which the hart stands for an instruction that comes to it
-abbrev pub EndsSo : Context → Progress → Layout → EndPart → Hart → Type 0
-EndsSo c progress layout part hart = (setup : Setup) (i : Instruction) (other : EndPart) (after : State)
+abbrev pub EndsSo : Context → Layout → EndPart → Hart → Type 0
+EndsSo c layout part hart = (setup : Setup) (i : Instruction) (other : EndPart) (after : State)
     → IsIn setup i c.hart c.progress layout c.settings.budget → story.IsEnding setup i other after → EndsWith setup (story.want_in setup i) part hart
 
 pub ending_in : (c : Context) (setup : Setup) (ending : IsEnding c) → IsRunOf c.entry c.settings setup → IsAtEnd (wanted setup (instruction_at setup c))
@@ -440,46 +440,60 @@ finish_is class w part after is ends =
     let told : need.Finish class ≡ need.Finish part.class = is ∙ ap need_of ends in
     cc
 
+-- the hart at the beginning of its next instruction is led to this progress
+pub record LeadsTo (hart : Hart) (layout : Layout) (budget : ℕ) (progress : Progress) : Type 0 where
+  pub first : Progress
+  pub begins : first ≡ begun
+  pub same : (setup : Setup) (i : Instruction) → IsIn setup i hart first layout budget → IsIn setup i hart progress layout budget
+
+pub leads_to : (hart : Hart) (layout : Layout) (budget : ℕ) (first progress : Progress) → first ≡ begun
+    → ((setup : Setup) (i : Instruction) → IsIn setup i hart first layout budget → IsIn setup i hart progress layout budget)
+    → LeadsTo hart layout budget progress
+leads_to hart layout budget first progress begins same = record { first = first; begins = begins; same = same }
+
 has_ended : (c : Context) (hart : Hart) (progress : Progress) (part : EndPart) (setup : Setup) (layout : Layout) → IsContext c → (ending : IsEnding c)
-    → layout ≡ layout_of c.settings → EndsSo c progress layout part hart → hart.regs.ends ≡ c.hart.regs.ends + 1 → progress ≡ begun
-    → IsRunOf c.entry c.settings setup → HasEnded setup c part hart progress
-has_ended c hart progress part setup layout context ending same so count begins of =
+    → layout ≡ layout_of c.settings → EndsSo c layout part hart → hart.regs.ends ≡ c.hart.regs.ends + 1
+    → LeadsTo hart layout c.settings.budget progress → IsRunOf c.entry c.settings setup → HasEnded setup c part hart progress
+has_ended c hart progress part setup layout context ending same so count leads_on of =
     let i = instruction_at setup c in
     let stands = (context.stands setup of).at in
     let end = ending_in c setup ending of in
     let made = so setup i end.part end.after (in_run c layout setup context same of) end.ends in
     let unspent = ends_unspent setup i.state i.replies part made.after made.ends in
-    let at : IsIn setup (instruction_from made.after) hart begun (layout_of c.settings) c.settings.budget = record {
+    let first : IsIn setup (instruction_from made.after) hart begun (layout_of c.settings) c.settings.budget = record {
       of = stands.of;
       stands = made.stands;
       fit = made.fit;
       reached = refl;
       sound = record { stage = tt; found = are_none begun.found refl };
     } in
+    let First : Progress × Layout → Type 0 = λ p. IsIn setup (instruction_from made.after) hart p.0 p.1 c.settings.budget in
+    let Now : Layout → Type 0 = λ l. IsIn setup (instruction_from made.after) hart progress l c.settings.budget in
+    let led = leads_on.same setup (instruction_from made.after) (subst First (λ k. (sym leads_on.begins k, sym same k)) first) in
     record {
       after = made.after;
       ends = made.ends;
       unspent = omega (arith, unspent, stands.fit.within);
       more = omega (arith, made.stands.regs.ends, stands.stands.regs.ends, count);
-      at = subst (λ (p : Progress). IsIn setup (instruction_from made.after) hart p (layout_of c.settings) c.settings.budget) (sym begins) at;
+      at = subst Now same led;
     }
 
 pub makes_end : (c : Context) (hart : Hart) (progress : Progress) (pass : PassOfHart) (log : Log) (left : ℕ) (part : EndPart) (bank : Option ℕ) (number : ℕ)
     (setup : Setup) (layout : Layout) → IsContext c → IsRunOf c.entry c.settings setup → IsEnding c → Gains c pass log (what.End part) bank number
-    → layout ≡ layout_of c.settings → EndsSo c progress layout part hart → hart.regs.ends ≡ c.hart.regs.ends + 1 → progress ≡ begun → left + 1 ≡ c.left
-    → IsContext (next c hart progress pass log c.engine left)
-makes_end c hart progress pass log left part bank number setup layout context of ending gains same so count begins less =
+    → layout ≡ layout_of c.settings → EndsSo c layout part hart → hart.regs.ends ≡ c.hart.regs.ends + 1
+    → LeadsTo hart layout c.settings.budget progress → left + 1 ≡ c.left → IsContext (next c hart progress pass log c.engine left)
+makes_end c hart progress pass log left part bank number setup layout context of ending gains same so count leads_on less =
     let end = ending_in c setup ending of in
-    let ended = has_ended c hart progress part setup layout context ending same so count begins of in
+    let ended = has_ended c hart progress part setup layout context ending same so count leads_on of in
     let class_is : part.class ≡ ending.class = finish_is ending.class (wanted setup (instruction_at setup c)) part ended.after (ending.ends setup of) ended.ends in
     let awake = ends-waiting setup c.pass.hart.0 (events_in c) end.part end.after (context.stands setup of).follows end.ends in
     after_end c hart progress pass log left part bank number context (has_room c setup context of) gains (ap (plan_of c) class_is ∙ ending.class_is) awake less count
-    (λ one its. has_ended c hart progress part one layout context ending same so count begins its)
+    (λ one its. has_ended c hart progress part one layout context ending same so count leads_on its)
 
 pub steps_end : (run : Run) (before after : Option History) (c : Context) (hart : Hart) (progress : Progress) (pass : PassOfHart) (log : Log) (left : ℕ)
     (part : EndPart) (bank : Option ℕ) (number : ℕ) (layout : Layout) → IsContext c → IsRunOf c.entry c.settings run.setup → IsEnding c
     → Gains c pass log (what.End part) bank number → InHistory run before c.pass.hart.0 (what.End part) number after
-    → layout ≡ layout_of c.settings → EndsSo c progress layout part hart → left + 1 ≡ c.left
+    → layout ≡ layout_of c.settings → EndsSo c layout part hart → left + 1 ≡ c.left
     → Steps run before after c (next c hart progress pass log c.engine left)
 steps_end run before after c hart progress pass log left part bank number layout context of ending gains history same so less =
     let setup = run.setup in

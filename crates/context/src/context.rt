@@ -16,7 +16,7 @@ use crate::held::HeldPass;
 use crate::wants::{Wants, Went};
 use access_record::{Bus, Entry, Pass};
 use flex_base::{Access, Class, Engine, Event, HartId, Layout, Settings, What};
-use hart_story::{Hart, Need, Progress, finish_in_place, give, need};
+use hart_story::{Hart, Need, Progress, finish_in_place, give, lead_in, need};
 use journal::HartLog;
 use std::marker::Model;
 use transplant_plan::Plan;
@@ -331,7 +331,8 @@ impl HartContext {
             .push_access(number, self.pass.hart(), self.engine, access, reply);
     }
 
-    // Ends the hart's instruction, in an engine that runs the class of the end.
+    // Ends the hart's instruction, in an engine that runs the class of the end, and leads the hart into
+    // the next one.
     fn make_end<B: Bus>(&mut self, bus: &mut B)
         requires on { IsOn (B.run bus.old) self.old }
         requires ends { IsEnding self.old }
@@ -344,6 +345,12 @@ impl HartContext {
         let layout = layout_of(&self.settings);
         let part = finish_in_place(
             &mut self.hart,
+            &mut self.progress,
+            &layout,
+            self.settings.budget,
+        );
+        lead_in(
+            &self.hart,
             &mut self.progress,
             &layout,
             self.settings.budget,

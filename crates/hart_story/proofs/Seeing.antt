@@ -1,12 +1,12 @@
 -- What a hart shows in the middle of its instruction.
-use Rattle.std.proofs.Common.{◌≡◌, ℕ, ◌+◌, ◌%◌, true, List, [], ◌∷◌, ◌++◌, length, refl, ap, sym, subst, ◌∙◌, arith, append-nil, ◌==◌, if◌then◌else◌}
+use Rattle.std.proofs.Common.{◌≡◌, ℕ, ◌%◌, true, List, [], ◌∷◌, ◌++◌, length, refl, ap, sym, subst, ◌∙◌, arith, append-nil, ◌==◌, if◌then◌else◌}
 use Rattle.std.proofs.lemmas.List.{length_push}
 use Rattle.flex_base.specs.Word.{is_multiple}
 use Rattle.flex_base.specs.Setup.{Setup}
 use Rattle.flex_base.specs.State.{State}
 use Rattle.flex_base.specs.Translation.{AreLeaves}
 use Rattle.flex_base.specs.declared.translation.Leaf.{Leaf}
-use Rattle.hart_story.specs.Found.{Sees, leaves_of, state_at}
+use Rattle.hart_story.specs.Found.{Sees, first_of, second_of, leaves_of, state_at}
 use Rattle.hart_story.specs.Progress.{node_at}
 use Rattle.hart_story.specs.Stage.{stage_of, has_begun}
 use Rattle.hart_story.specs.StandsFor.{StandsFor, Shows}
@@ -62,7 +62,7 @@ sees hart a lines found stands fit leaves = record {
 
 pub leaves_none : (found : Found) → found.count ≡ 0 → leaves_of found ≡ []
 leaves_none found none =
-    ap (λ n. if n == 0 then [] else (if n == 1 then found.first ∷ [] else found.first ∷ found.second ∷ [])) none
+    ap (λ n. if n == 0 then [] else (if n == 1 then first_of found ∷ [] else first_of found ∷ second_of found ∷ [])) none
 
 pub are_none : (found : Found) → found.count ≡ 0 → AreLeaves (leaves_of found)
 are_none found none = let Are : List Leaf → Type 0 = λ ls. AreLeaves ls in subst Are (sym (leaves_none found none)) tt

@@ -1,5 +1,5 @@
 -- A walk in the story, by where the walk in the code is.
-use Rattle.std.proofs.Common.{◌≡◌, ℕ, ◌+◌, ◌-◌, ◌<◌, zero, suc, Bool, true, false, if◌then◌else◌, List, [], ◌∷◌, Option, None, Some, refl, ap, sym, subst, ◌∙◌, arith, slice_index}
+use Rattle.std.proofs.Common.{◌≡◌, ℕ, ◌-◌, ◌<◌, zero, suc, Bool, true, false, if◌then◌else◌, List, [], ◌∷◌, Option, None, refl, ap, sym, subst, ◌∙◌, arith, slice_index}
 use Rattle.std.proofs.Math.Path.{fun_ext}
 use Rattle.flex_base.specs.Place.{in_ram}
 use Rattle.flex_base.specs.Csrs.{satp}
@@ -20,7 +20,7 @@ use Rattle.sv39.specs.IsAfter.{ahead, ahead_by, left_by, entries_left}
 use Rattle.sv39.specs.declared.walk.Stage.{Stage}
 use Rattle.sv39.specs.declared.walk.Stage.TheVariants as stage
 use Rattle.sv39.specs.declared.walk.Walk.{Walk}
-use Rattle.hart_story.specs.Stage.{walking, IsRead, IsReading}
+use Rattle.hart_story.specs.Stage.{IsRead, IsReading}
 
 module _ (ram : ℕ) (a : State) (k : Kind) (va : ℕ) (next : State → ℕ → Story) where
   pub walks_leaf : (left : ℕ) (forth : List ℕ → WalkStep) (leaf : Leaf) → forth [] ≡ step.Leaf leaf

@@ -28,8 +28,12 @@ begun = record {
   stage = stage.Begun;
   lines = 0;
   found = record {
-    first = record { page = 0; frame = 0; flags = 0 };
-    second = record { page = 0; frame = 0; flags = 0 };
+    first_page = 0;
+    second_page = 0;
+    first_frame = 0;
+    second_frame = 0;
+    first_flags = 0;
+    second_flags = 0;
     count = 0;
   };
 }

@@ -98,6 +98,23 @@ abbrev pub has_begun : Stage → Bool
 has_begun stage.Begun = false
 has_begun other = true
 
+-- a walk reads an entry
+abbrev pub is_walk_at : Stage → Bool
+is_walk_at (stage.FetchWalk walk) = true
+is_walk_at (stage.AccessWalk walk work) = true
+is_walk_at other = false
+
+-- the word is fetched
+abbrev pub is_fetch_at : Stage → Bool
+is_fetch_at (stage.Fetch address) = true
+is_fetch_at other = false
+
+-- the access is made, of RAM or of a device register
+abbrev pub is_access_at : Stage → Bool
+is_access_at (stage.Access address work) = true
+is_access_at (stage.Device address work) = true
+is_access_at other = false
+
 -- the instruction has come to its end
 abbrev pub is_end_at : Stage → Bool
 is_end_at (stage.Working made) = is_end made

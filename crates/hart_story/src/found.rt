@@ -8,16 +8,15 @@ use hart_state::Kept;
 /// The leaves that the walks of one instruction have found. The hart keeps them at its end.
 #[derive(Clone, Copy, Debug, PartialEq, Eq)]
 pub struct Found {
-    first: Leaf,
-    second: Leaf,
+    // The numbers of pages are below 2^27.
+    first_page: u32,
+    second_page: u32,
+    first_frame: u64,
+    second_frame: u64,
+    first_flags: u8,
+    second_flags: u8,
     count: u8,
 }
-
-const NO_LEAF: Leaf = Leaf {
-    page: 0,
-    frame: 0,
-    flags: 0,
-};
 
 impl Found {
     ghost use Rattle.std.specs.Prelude.{◌≡◌, ◌≢◌, ◌<◌, ◌≤◌, ◌+◌, ℕ, List, ◌++◌, [], ◌∷◌};
@@ -25,20 +24,48 @@ impl Found {
     ghost use Rattle.flex_base.specs.declared.translation.Leaf.{Leaf};
     ghost use Rattle.hart_state.specs.IsLatest.{IsLatest};
     ghost use Rattle.flex_base.specs.State.{State};
-    ghost use Rattle.hart_story.specs.Found.{leaves_of, state_at};
+    ghost use Rattle.hart_story.specs.Found.{first_of, second_of, leaves_of, state_at};
     ghost use Rattle.hart_story.specs.Translated.{state_after, entries_in, IsSoundTranslated};
 
     pub(crate) fn none() -> Found
         ensures { result ≡ record {
-          first = record { page = 0; frame = 0; flags = 0 };
-          second = record { page = 0; frame = 0; flags = 0 };
+          first_page = 0;
+          second_page = 0;
+          first_frame = 0;
+          second_frame = 0;
+          first_flags = 0;
+          second_flags = 0;
           count = 0;
         } }
     {
         Found {
-            first: NO_LEAF,
-            second: NO_LEAF,
+            first_page: 0,
+            second_page: 0,
+            first_frame: 0,
+            second_frame: 0,
+            first_flags: 0,
+            second_flags: 0,
             count: 0,
+        }
+    }
+
+    fn first(&self) -> Leaf
+        ensures { result ≡ first_of self.now }
+    {
+        Leaf {
+            page: self.first_page as u64,
+            frame: self.first_frame,
+            flags: self.first_flags,
+        }
+    }
+
+    fn second(&self) -> Leaf
+        ensures { result ≡ second_of self.now }
+    {
+        Leaf {
+            page: self.second_page as u64,
+            frame: self.second_frame,
+            flags: self.second_flags,
         }
     }
 
@@ -50,21 +77,27 @@ impl Found {
 
     // A leaf more; an instruction has at most two walks.
     pub(crate) fn add(&mut self, leaf: Leaf)
-        requires { self.old.count < 2 }
+        requires count { self.old.count < 2 }
+        requires leaf { IsLeaf leaf }
         ensures leaves { leaves_of self.new ≡ leaves_of self.old ++ leaf ∷ [] }
         ensures count { self.new.count ≡ self.old.count + 1 }
     {
         if self.count == 0 {
-            self.first = leaf;
+            self.first_page = leaf.page as u32;
+            self.first_frame = leaf.frame;
+            self.first_flags = leaf.flags;
         } else {
-            self.second = leaf;
+            self.second_page = leaf.page as u32;
+            self.second_frame = leaf.frame;
+            self.second_flags = leaf.flags;
         }
         self.count += 1;
     }
 
     // A leaf more where a walk has found one.
     pub(crate) fn note(&mut self, came: &Translated)
-        requires { self.old.count < 2 }
+        requires count { self.old.count < 2 }
+        requires sound { (ram : ℕ) × (va : ℕ) × IsSoundTranslated ram va came.now }
         ensures leaves { (a : State) (lines : ℕ)
             → state_at a lines self.new ≡ state_after (state_at a lines self.old) came.now }
         ensures sound { (ram va : ℕ) → IsSoundTranslated ram va came.now → AreLeaves (leaves_of self.old)
@@ -86,11 +119,13 @@ impl Found {
         if self.count == 0 {
             return held.look(page);
         }
-        if self.count != 1 && has_place(&self.second, page) {
-            return of_page(&self.second, page);
+        let second = self.second();
+        if self.count != 1 && has_place(&second, page) {
+            return of_page(&second, page);
         }
-        if has_place(&self.first, page) {
-            return of_page(&self.first, page);
+        let first = self.first();
+        if has_place(&first, page) {
+            return of_page(&first, page);
         }
         held.look(page)
     }
@@ -104,9 +139,9 @@ impl Found {
         if self.count == 0 {
             return;
         }
-        held.keep(self.first);
+        held.keep(self.first());
         if self.count != 1 {
-            held.keep(self.second);
+            held.keep(self.second());
         }
     }
 }

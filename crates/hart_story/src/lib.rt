@@ -11,8 +11,10 @@ mod hart;
 mod jump;
 mod memory;
 mod memory_work;
+mod needs;
 mod outcome;
 mod progress;
+mod replies;
 mod reply;
 mod stage;
 mod story;
@@ -22,8 +24,10 @@ mod width;
 mod work;
 
 pub use hart::Hart;
+pub use needs::need;
 pub use progress::{Need, Progress};
-pub use story::{finish, finish_in_place, give, lead_in, need};
+pub use replies::give;
+pub use story::{finish, finish_in_place, lead_in};
 
 #[cfg(test)]
 mod tests;

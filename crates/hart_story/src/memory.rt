@@ -34,93 +34,110 @@ use flex_base::{Access, Class, Kind, Layout, Place, is_reserved, reservation_set
 
 // The instruction tests its alignment, and then its address is translated. Its fetch may have found
 // a leaf.
-pub(crate) fn reach(hart: &Hart, layout: &Layout, found: &Found, work: MemoryWork) -> Stage
+pub(crate) fn reach(
+    hart: &Hart,
+    layout: &Layout,
+    found: &Found,
+    stage: &mut Stage,
+    work: MemoryWork,
+)
     requires { IsMemoryWork work }
     ensures reaches { ComesTo layout.now hart.now found.now
-        (λ setup a. reaches setup a (kind_of work.op) work.width work.address (reaching work setup)) result }
-    ensures sound { (count : ℕ) → count ≤ 1 → IsSoundStage layout.now hart.now count result }
-    ensures nearer { left_at result < 6 }
-    ensures begun { has_begun result ≡ true }
-    ensures goes_on { is_over_at result ≡ false }
+        (λ setup a. reaches setup a (kind_of work.op) work.width work.address (reaching work setup)) stage.new }
+    ensures sound { (count : ℕ) → count ≤ 1 → IsSoundStage layout.now hart.now count stage.new }
+    ensures nearer { left_at stage.new < 6 }
+    ensures begun { has_begun stage.new ≡ true }
+    ensures goes_on { is_over_at stage.new ≡ false }
 {
     let kind = kind_of(work.op);
     if work.address % work.width as u64 != 0 {
-        return trap(misaligned(kind), work.address);
+        *stage = trap(misaligned(kind), work.address);
+        return;
     }
     let came = translate(hart, layout, found, kind, work.address);
-    access_stage(hart, layout, work, &came)
+    set_access_stage(hart, layout, stage, work, &came);
 }
 
-// The instruction by what the translation of its address has come to.
-pub(crate) fn access_stage(
+// The instruction by what the translation of its address has come to. The stage is written in place,
+// since it is large.
+#[inline(always)]
+pub(crate) fn set_access_stage(
     hart: &Hart,
     layout: &Layout,
+    stage: &mut Stage,
     work: MemoryWork,
     came: &Translated,
-) -> Stage
+)
     requires { IsMemoryWork work }
     ensures goes { (setup : Setup) (budget : ℕ) (a : State) → IsOf setup layout.now budget → Shows hart.now a
         → translated_of setup.ram a (kind_of work.op) work.address (reaching work setup) came.now
-        ≡ stage_of setup (state_after a came.now) result }
+        ≡ stage_of setup (state_after a came.now) stage.new }
     ensures sound { (count : ℕ) → IsAlignedWork work → IsSoundTranslated layout.now.ram work.address came.now
-        → (entries_in came.now ≢ 0 → count ≤ 1) → IsSoundStage layout.now hart.now count result }
-    ensures nearer { left_at result ≤ access_left came.now }
-    ensures begun { has_begun result ≡ true }
-    ensures goes_on { is_over_at result ≡ false }
+        → (entries_in came.now ≢ 0 → count ≤ 1) → IsSoundStage layout.now hart.now count stage.new }
+    ensures nearer { left_at stage.new ≤ access_left came.now }
+    ensures begun { has_begun stage.new ≡ true }
+    ensures goes_on { is_over_at stage.new ≡ false }
 {
     match *came {
-        Translated::Walks(walk) => Stage::AccessWalk(walk, work),
-        Translated::To(address) => place(hart, layout, work, address),
-        Translated::Found(address, _) => place(hart, layout, work, address),
-        Translated::Fails(cause) => trap(cause, work.address),
+        Translated::Walks(walk) => *stage = Stage::AccessWalk(walk, work),
+        Translated::To(address) => place(hart, layout, stage, work, address),
+        Translated::Found(address, _) => place(hart, layout, stage, work, address),
+        Translated::Fails(cause) => *stage = trap(cause, work.address),
     }
 }
 
 // The instruction at its physical address.
-fn place(hart: &Hart, layout: &Layout, work: MemoryWork, address: u64) -> Stage
+#[inline(always)]
+fn place(hart: &Hart, layout: &Layout, stage: &mut Stage, work: MemoryWork, address: u64)
     requires { IsMemoryWork work }
     ensures places { (setup : Setup) (budget : ℕ) (a : State) → IsOf setup layout.now budget → Shows hart.now a
-        → reaching work setup a address ≡ stage_of setup a result }
+        → reaching work setup a address ≡ stage_of setup a stage.new }
     ensures sound { (count : ℕ) → is_multiple address work.width ≡ true
-        → IsSoundStage layout.now hart.now count result }
-    ensures nearer { left_at result < 2 }
-    ensures begun { has_begun result ≡ true }
-    ensures goes_on { is_over_at result ≡ false }
+        → IsSoundStage layout.now hart.now count stage.new }
+    ensures nearer { left_at stage.new < 2 }
+    ensures begun { has_begun stage.new ≡ true }
+    ensures goes_on { is_over_at stage.new ≡ false }
 {
     match work.op {
-        MemoryOp::Load => place_anywhere(layout, work, address),
-        MemoryOp::Store => place_anywhere(layout, work, address),
-        MemoryOp::LoadReserved => place_in_ram(layout, work, address, Stage::Access(address, work)),
-        MemoryOp::StoreConditional => {
-            place_in_ram(layout, work, address, conditional(hart, work, address))
+        MemoryOp::Load => place_anywhere(layout, stage, work, address),
+        MemoryOp::Store => place_anywhere(layout, stage, work, address),
+        MemoryOp::LoadReserved => {
+            *stage = place_in_ram(layout, work, address, Stage::Access(address, work));
         }
-        MemoryOp::Modify(_) => place_in_ram(layout, work, address, Stage::Access(address, work)),
+        MemoryOp::StoreConditional => {
+            *stage = place_in_ram(layout, work, address, conditional(hart, work, address));
+        }
+        MemoryOp::Modify(_) => {
+            *stage = place_in_ram(layout, work, address, Stage::Access(address, work));
+        }
     }
 }
 
 // A load or a store, of RAM or of a device register.
-fn place_anywhere(layout: &Layout, work: MemoryWork, address: u64) -> Stage
+#[inline(always)]
+fn place_anywhere(layout: &Layout, stage: &mut Stage, work: MemoryWork, address: u64)
     requires { IsMemoryWork work }
     ensures places { (setup : Setup) (budget : ℕ) (a : State) → IsOf setup layout.now budget
         → at_place (place_of setup.harts setup.ram address work.width) (asking work a address) (asking_device work a address)
-        (traps a (access_fault (kind_of work.op)) work.address) ≡ stage_of setup a result }
+        (traps a (access_fault (kind_of work.op)) work.address) ≡ stage_of setup a stage.new }
     ensures sound { (hart : Hart) (count : ℕ)
         → (in_ram layout.now.ram address work.width ≡ true → IsSoundStage layout.now hart count (Stage.Access address work))
         → (place_of layout.now.harts layout.now.ram address work.width ≡ Place.Device
         → IsSoundStage layout.now hart count (Stage.Device address work))
-        → IsSoundStage layout.now hart count result }
-    ensures nearer { left_at result < 2 }
-    ensures begun { has_begun result ≡ true }
-    ensures goes_on { is_over_at result ≡ false }
+        → IsSoundStage layout.now hart count stage.new }
+    ensures nearer { left_at stage.new < 2 }
+    ensures begun { has_begun stage.new ≡ true }
+    ensures goes_on { is_over_at stage.new ≡ false }
 {
     match layout.place(address, work.width) {
-        Place::Ram => Stage::Access(address, work),
-        Place::Device => Stage::Device(address, work),
-        Place::Nowhere => trap(access_fault(kind_of(work.op)), work.address),
+        Place::Ram => *stage = Stage::Access(address, work),
+        Place::Device => *stage = Stage::Device(address, work),
+        Place::Nowhere => *stage = trap(access_fault(kind_of(work.op)), work.address),
     }
 }
 
 // An atomic instruction, which comes to this in RAM.
+#[inline(never)]
 fn place_in_ram(layout: &Layout, work: MemoryWork, address: u64, made: Stage) -> Stage
     requires nearer { left_at made < 2 }
     requires begun { has_begun made ≡ true }

@@ -52,13 +52,13 @@ pub enum Outcome {
 #[derive(Clone, Copy, Debug, PartialEq, Eq)]
 pub struct End {
     pub class: Class,
-    /// The next `pc`.
-    pub next: u64,
+    /// Whether it makes a pulse due.
+    pub due: bool,
     /// The written register, 0 for none.
     pub rd: u8,
     pub value: u64,
+    /// The next `pc`.
+    pub next: u64,
     /// The reservation that it leaves.
     pub reservation: Option<u64>,
-    /// Whether it makes a pulse due.
-    pub due: bool,
 }

@@ -12,6 +12,9 @@ pub struct Progress {
     pub(crate) found: Found,
 }
 
+// Each hart and each context has one.
+const _: () = prove!(size_of::<Progress>() <= 96);
+
 impl Progress {
     ghost use Rattle.std.specs.Prelude.{◌≡◌, true};
     ghost use Rattle.hart_story.specs.Progress.{begun, is_done, is_parked};

@@ -1,5 +1,5 @@
 // Virtual addresses (Volume II, "Virtual Address Translation Process").
-ghost use Rattle.std.specs.Prelude.{◌≡◌, ◌≢◌, ◌%◌, ◌<◌, ◌||◌, ℕ, [], IsTrue, IfSome, IsSome, ◌↔◌};
+ghost use Rattle.std.specs.Prelude.{◌≡◌, ◌≢◌, ◌%◌, ◌<◌, ◌||◌, ℕ, [], IsTrue, IfSome, IsSome, ◌↔◌, true};
 ghost use Rattle.flex_base.specs.Setup.{Setup};
 ghost use Rattle.flex_base.specs.State.{State};
 ghost use Rattle.flex_base.specs.StoryTree.{Story};
@@ -48,6 +48,7 @@ pub enum Translated {
 }
 
 // The translation of an address, as far as it comes without a read of memory.
+#[inline(always)]
 pub(crate) fn translate(
     hart: &Hart,
     layout: &Layout,
@@ -60,9 +61,22 @@ pub(crate) fn translate(
     ensures same { (a : State) → state_after a result ≡ a }
     ensures sound { IsSoundTranslated layout.now.ram va result }
 {
-    if !is_translated(hart, kind) {
-        return Translated::To(va);
+    if is_translated(hart, kind) {
+        by_pages(hart, layout, found, kind, va)
+    } else {
+        Translated::To(va)
     }
+}
+
+// By Sv39, which looks at what is kept first.
+#[inline(never)]
+fn by_pages(hart: &Hart, layout: &Layout, found: &Found, kind: Kind, va: u64) -> Translated
+    ensures translates { (setup : Setup) (budget : ℕ) (a : State) (next : State → ℕ → Story) → IsOf setup layout.now budget
+        → Sees hart.now found.now a → is_translated a kind ≡ true
+        → translates setup.ram a kind va next ≡ translated_of setup.ram a kind va next result }
+    ensures same { (a : State) → state_after a result ≡ a }
+    ensures sound { IsSoundTranslated layout.now.ram va result }
+{
     if !is_canonical(va) {
         return Translated::Fails(page_fault(kind));
     }

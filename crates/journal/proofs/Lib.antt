@@ -1,3 +1,4 @@
 mod Packed
-mod Merging
+pub mod Merging
 mod Rests
+mod Logs

@@ -9,7 +9,7 @@ use Rattle.flex_base.specs.declared.event.Event.{Event}
 use Rattle.journal.specs.Log.{Log}
 use Rattle.journal.specs.Merged.{AreLogsOf, of_hart}
 use Rattle.journal.specs.Rests.{AreRests, IsByNumber, IsLeft, begins_with, events_left, is_in_range, merged}
-use Rattle.journal.specs.declared.merged.Rest.{Rest}
+use Rattle.journal.specs.declared.rest.Rest.{Rest}
 use Rattle.journal.proofs.Merging.{at_least, first-number, merged-harts, of_hart-none, of_hart-other, of_hart-own, rest-numbered}
 
 module _ (rests : List (List Event)) (count : ℕ) where
@@ -65,9 +65,10 @@ module _ (rests : List (List Event)) (count : ℕ) where
         subst (λ (es : List Event). IsLeft t (next + 1) count (set rests at es)) (sym rest) (is_left-taken x t next at now within own) in
         let size : length (set rests at xs) ≡ 32 = length-set rests at xs ∙ is.size in
         let old : merged rests ≡ x ∷ t = merged-left (x ∷ t) next few now in
-        let new : merged (set rests at xs) ≡ t = merged-harts (next + 1) count (set rests at xs) t after.numbers (omega (arith, size, is.few)) after.harts after.each in
-        (old ∙ ap (λ (es : List Event). x ∷ es) (sym new),
-        record { size = size; few = is.few; within = below; left = (t, next + 1, after, omega (arith, numbered)) })
+        let new : merged (set rests at xs) ≡ t = merged-harts (next + 1) count (set rests at xs) t after.numbers (omega (arith, size, is.few)) after.harts after.each in (
+          old ∙ ap (λ (es : List Event). x ∷ es) (sym new),
+          record { size = size; few = is.few; within = below; left = (t, next + 1, after, omega (arith, numbered)) },
+        )
 
     -- where no log begins with the number, none has an event
     pub none_left : ((h : ℕ) → h < count → (begins_with number (get_or rests h []) ≡ false) × is_in_range (get_or rests h [])) → merged rests ≡ []

@@ -3,10 +3,11 @@ use Rattle.std.specs.Prelude.{◌≡◌, ℕ, ◌<◌, ◌≤◌, ◌%◌, ◌^�
 use Rattle.std.specs.List.{All, flat_map, range_with_len}
 use Rattle.flex_base.specs.Journal.{numbers_of}
 use Rattle.flex_base.specs.declared.event.Event.{Event}
-use Rattle.journal.specs.Log.{Log, has_number}
+use Rattle.flex_base.specs.Merging.{has_number}
+use Rattle.journal.specs.Log.{Log}
 use Rattle.journal.specs.Merged.{of_hart}
 use Rattle.journal.specs.Packing.{events_of}
-use Rattle.journal.specs.declared.merged.Rest.{Rest}
+use Rattle.journal.specs.declared.rest.Rest.{Rest}
 
 -- the events of what is left of a log
 abbrev pub events_left : Rest → List Event

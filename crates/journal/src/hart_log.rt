@@ -1,13 +1,15 @@
-ghost use Rattle.std.specs.Prelude.{◌≡◌, ◌+◌, ◌-◌, ◌≤◌, [], ◌∷◌, ◌++◌, length, IfOk, OnOk};
+ghost use Rattle.std.specs.Prelude.{◌≡◌, ◌+◌, ◌-◌, ◌≤◌, [], ◌∷◌, ◌++◌, length, vec_capacity, IfOk, OnOk};
 ghost use Rattle.flex_base.specs.Journal.{event};
 ghost use Rattle.journal.specs.Log.{Log};
 ghost use Rattle.journal.specs.Packing.{view_of, what_of};
 ghost use Rattle.journal.specs.Keeping.{IsKept};
+ghost use Rattle.journal.specs.Rests.{events_left};
 
 use crate::events::Events;
 use crate::kept::{Kept, Last};
 use crate::kept_event::KeptEvents;
 use crate::parts::Parts;
+use crate::rest::Rest;
 use flex_base::{Access, EndPart, Engine, Event, HartId, Reply, What};
 use std::alloc::{AllocError, Global};
 use std::marker::Model;
@@ -19,18 +21,21 @@ const MORE: usize = 65_536;
 /// and the room that is left.
 #[derive(Drop)]
 pub struct HartLog {
+    // As many as there is memory for.
     kept: Vec<Kept>,
-    // The last numbers of those events in which they aren't small.
-    beside: Vec<u64>,
-    whole: u64,
+    // The last numbers of those events in which they aren't small. They are seldom used, and a hart
+    // on the move carries its log, so they stand apart.
+    beside: Box<Vec<u64>>,
 }
+
+const _: () = prove!(size_of::<HartLog>() <= 32);
 
 impl Model for HartLog {
     ghost Value = { Log };
 
-    ghost view = { λ l. view_of l.kept.items l.beside.items l.whole };
+    ghost view = { λ l. view_of l.kept.items l.beside.value.items (vec_capacity l.kept) };
 
-    ghost invariant = { λ l. IsKept l.kept l.beside l.whole };
+    ghost invariant = { λ l. IsKept l.kept l.beside.value };
 }
 
 impl HartLog {
@@ -38,11 +43,9 @@ impl HartLog {
     pub fn new(alloc: Global, room: u64) -> Result<HartLog, AllocError>
         ensures { IfOk result (λ log. log ≡ record { events = []; room = room }) }
     {
-        Ok(HartLog {
-            kept: Vec::with_capacity(alloc, room as usize)?,
-            beside: Vec::with_capacity(alloc, room as usize)?,
-            whole: room,
-        })
+        let kept = Vec::with_capacity(alloc, room as usize)?;
+        let beside = Box::new(alloc, Vec::with_capacity(alloc, room as usize)?)?;
+        Ok(HartLog { kept, beside })
     }
 
     /// Makes room for 65,536 events. The error is want of memory.
@@ -51,11 +54,9 @@ impl HartLog {
         ensures events { self.new.events ≡ self.old.events }
         ensures room { OnOk result (65536 ≤ self.new.room) }
     {
-        let whole = self.kept.len() + MORE;
-        self.kept.reserve(MORE)?;
-        self.beside.reserve(whole)?;
-        self.whole = whole as u64;
-        Ok(())
+        // What was reserved beside is no harm where there is no memory for the events.
+        self.beside.reserve(self.kept.len() + MORE)?;
+        self.kept.reserve_exact(MORE)
     }
 
     /// Adds an event at the end. It takes no memory.
@@ -137,7 +138,7 @@ impl HartLog {
     pub fn room(&self) -> u64
         ensures { result ≡ self.now.room }
     {
-        self.whole - self.kept.len() as u64
+        (self.kept.capacity() - self.kept.len()) as u64
     }
 
     /// The events in order, by value.
@@ -153,9 +154,16 @@ impl HartLog {
     pub fn kept_events(&self) -> KeptEvents<'_>
         ensures { result ≡ self.now.events }
     {
-        KeptEvents {
+        KeptEvents { rest: self.rest() }
+    }
+
+    // All of them, for one who reads several logs.
+    pub(crate) fn rest(&self) -> Rest<'_>
+        ensures { events_left result ≡ self.now.events }
+    {
+        Rest {
             kept: &self.kept,
-            beside: &self.beside,
+            beside: self.beside.as_slice(),
         }
     }
 

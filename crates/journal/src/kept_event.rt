@@ -1,9 +1,11 @@
 ghost use Rattle.std.specs.Prelude.{◌≡◌, List};
 ghost use Rattle.std.specs.Iterator.{YieldsFirst, item_count};
 ghost use Rattle.flex_base.specs.declared.event.Event.{Event};
-ghost use Rattle.journal.specs.Packing.{event_of, events_of};
+ghost use Rattle.journal.specs.Packing.{event_of};
+ghost use Rattle.journal.specs.Rests.{events_left};
 
-use crate::kept::{Kept, Last};
+use crate::kept::Kept;
+use crate::rest::Rest;
 use flex_base::{Engine, Event, HartId, What};
 use std::marker::Model;
 
@@ -11,9 +13,9 @@ use std::marker::Model;
 /// one, no event need be made.
 #[derive(Drop)]
 pub struct KeptEvent<'a> {
-    kept: &'a Kept,
+    pub(crate) kept: &'a Kept,
     // Its last number, if that stands beside the events.
-    beside: u64,
+    pub(crate) beside: u64,
 }
 
 impl<'a> Model for KeptEvent<'a> {
@@ -72,14 +74,13 @@ impl<'a> KeptEvent<'a> {
 /// The events of a log as they are kept, in order. Contracts see the list of those that are left.
 #[derive(Drop)]
 pub struct KeptEvents<'a> {
-    pub(crate) kept: &'a [Kept],
-    pub(crate) beside: &'a [u64],
+    pub(crate) rest: Rest<'a>,
 }
 
 impl<'a> Model for KeptEvents<'a> {
     ghost Value = { List Event };
 
-    ghost view = { λ e. events_of e.kept.now e.beside.now };
+    ghost view = { λ e. events_left e.rest };
 }
 
 impl<'a> Iterator for KeptEvents<'a> {
@@ -91,15 +92,6 @@ impl<'a> Iterator for KeptEvents<'a> {
 
     #[inline(always)]
     fn next(&mut self) -> Option<KeptEvent<'a>> {
-        let (kept, rest) = self.kept.split_first()?;
-        self.kept = rest;
-        let mut last = 0;
-        if let Last::Beside = kept.last {
-            if let Some((first, others)) = self.beside.split_first() {
-                last = *first;
-                self.beside = others;
-            }
-        }
-        Some(KeptEvent { kept, beside: last })
+        self.rest.take_first()
     }
 }

@@ -1,4 +1,5 @@
-//! The journal of a hart: its events in order, each kept in 40 bytes, read back by value.
+//! The journal of a hart: its events in order, each kept in 40 bytes, read back by value, and those
+//! of several harts in the order of their numbers.
 #![tactic(auto)]
 
 mod events;
@@ -7,6 +8,7 @@ mod kept;
 mod kept_event;
 mod merged;
 mod parts;
+mod rest;
 
 pub use events::Events;
 pub use hart_log::HartLog;

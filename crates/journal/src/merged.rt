@@ -5,19 +5,12 @@ ghost use Rattle.journal.specs.Merged.{AreLogsOf};
 ghost use Rattle.journal.specs.Rests.{AreRests, IsByNumber, begins_with, events_left, is_in_range, merged};
 
 use crate::hart_log::HartLog;
-use crate::kept::Kept;
-use crate::kept_event::{KeptEvent, KeptEvents};
+use crate::kept_event::KeptEvent;
+use crate::rest::Rest;
 use std::marker::Model;
 
 // As many logs as there may be harts.
 const LOGS: usize = 32;
-
-// What is left of a log.
-#[derive(Clone, Copy)]
-struct Rest<'a> {
-    kept: &'a [Kept],
-    beside: &'a [u64],
-}
 
 /// The events of several logs in the order of their numbers, as they are kept. Contracts see the
 /// list of those that are left.
@@ -64,40 +57,9 @@ fn whole(logs: &[HartLog]) -> [Rest<'_>; LOGS]
         beside: &[],
     }; LOGS];
     for hart in 0..logs.len() {
-        rests[hart] = Rest::of(logs[hart].kept_events());
+        rests[hart] = logs[hart].rest();
     }
     rests
-}
-
-impl<'a> Rest<'a> {
-    #[inline(always)]
-    fn of(events: KeptEvents<'a>) -> Rest<'a>
-        ensures { events_left result ≡ events.entry }
-    {
-        Rest {
-            kept: events.kept,
-            beside: events.beside,
-        }
-    }
-
-    #[inline(always)]
-    fn events(self) -> KeptEvents<'a>
-        ensures { result ≡ events_left self.entry }
-    {
-        KeptEvents {
-            kept: self.kept,
-            beside: self.beside,
-        }
-    }
-
-    // Whether its first event has this number.
-    #[inline(always)]
-    fn begins_with(self, number: u64) -> bool
-        ensures is { result ≡ begins_with number (events_left self.entry) }
-        ensures range { is_in_range (events_left self.entry) }
-    {
-        !self.kept.is_empty() && self.kept[0].number == number
-    }
 }
 
 impl<'a> Iterator for ByNumber<'a> {
@@ -115,10 +77,8 @@ impl<'a> Iterator for ByNumber<'a> {
         self.last = at;
         // After the event of the greatest number there is none.
         self.number = self.number.wrapping_add(1);
-        let mut rest = self.rests[at].events();
-        let next = rest.next();
-        self.rests[at] = Rest::of(rest);
-        next
+        let rest = &mut self.rests[at];
+        rest.take_first()
     }
 }
 
@@ -135,9 +95,9 @@ fn place_of(rests: &[Rest<'_>; LOGS], count: usize, last: usize, number: u64) ->
     if rests[last].begins_with(number) {
         return Some(last);
     }
-    match first_of(rests, last, count, number) {
+    match first_of(rests, last + 1, count, number) {
         Some(at) => Some(at),
-        None => first_of(rests, 0, last, number),
+        None => first_of(rests, 0, last + 1, number),
     }
 }
 

@@ -1,4 +1,5 @@
 ghost use Rattle.std.specs.Prelude.{◌≡◌, IfOk};
+ghost use Rattle.flex_base.specs.Journal.{event};
 ghost use Rattle.journal.specs.Merged.{AreLogsOf};
 
 use super::{HartLog, by_number};
@@ -25,6 +26,9 @@ fn end(first: u64) -> What {
         second: 7,
     })
 }
+
+// What goes to another thread.
+fn is_sent<T: Send>(_value: &T) {}
 
 #[test]
 fn an_event_is_kept_in_40_bytes(rt: HostRuntime) {
@@ -53,6 +57,7 @@ fn a_log_gives_what_was_pushed(rt: HostRuntime) -> Result<(), Fail> {
         event(u64::MAX, end(1 << 40)),
     ];
     let mut log = HartLog::new(rt.alloc(), 5)?;
+    is_sent(&log);
     for one in pushed {
         assert!(rt; log.room() > 0);
         log.push(one);
@@ -72,15 +77,15 @@ fn a_log_gives_what_was_pushed(rt: HostRuntime) -> Result<(), Fail> {
     Ok(())
 }
 
-// An event of a hart.
+// An event of a hart. Its last number isn't small.
 fn of_hart(hart: u8, number: u64) -> Event
-    ensures { (result.hart.0 ≡ hart) × (result.number ≡ number) }
+    ensures { (happened : What) × (result ≡ event number hart Engine.Pipe happened) }
 {
     Event {
         number,
         hart: HartId(hart),
         engine: Engine::Pipe,
-        what: What::Handover(Engine::Host),
+        what: end(1 << 40 | number),
     }
 }
 

@@ -6,9 +6,11 @@ use Rattle.access_record.specs.declared.entry.LogEntry.{LogEntry}
 use Rattle.access_record.specs.Logs.{Ascends, sum_below}
 use Rattle.access_record.specs.Buses.{events_of}
 use Rattle.access_record.proofs.Totals.{sum_below-same, sum_below-put, sum_below-none}
-use Rattle.solo.specs.Rising.{Rises, numbered_from, AreOfHarts, of_hart}
+use Rattle.journal.specs.Merged.{of_hart}
+use Rattle.solo.specs.Rising.{Rises, numbered_from, AreOfHarts}
 use Rattle.solo.proofs.Rising.{rises_numbered}
-use Rattle.solo.proofs.Merging.{of_hart-cons, of_hart-none}
+use Rattle.journal.proofs.Merging.{of_hart-none}
+use Rattle.solo.proofs.Parts.{of_hart-cons}
 
 -- Numbers below the count of the record.
 

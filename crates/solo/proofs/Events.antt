@@ -1,11 +1,10 @@
 -- An event that a context made over a bus of one thread is the machine's.
-use Rattle.std.proofs.Common.{◌≡◌, ◌≢◌, ℕ, ◌+◌, ◌<◌, ◌≤◌, Bool, true, false, if◌then◌else◌, List, [], ◌∷◌, ◌++◌, length, get_or, set, Option, Some, inl, inr, refl, ap, sym, subst, ◌∙◌, arith, length-set, get_or-set_same, get_or-set_other}
+use Rattle.std.proofs.Common.{◌≡◌, ◌≢◌, ℕ, ◌+◌, ◌<◌, List, [], ◌∷◌, ◌++◌, length, get_or, set, Some, inl, inr, refl, ap, sym, subst, ◌∙◌, arith, length-set, get_or-set_same, get_or-set_other}
 use Rattle.std.proofs.lemmas.Bool.{cases_Bool}
 use Rattle.flex_base.specs.Setup.{Setup}
-use Rattle.flex_base.specs.State.{State}
 use Rattle.flex_base.specs.FlatMemory.{Done, is_ram_access}
 use Rattle.flex_base.specs.Forms.{IsPlaced}
-use Rattle.flex_base.specs.Banks.{bank_of_access, reply_at, IsAnswered}
+use Rattle.flex_base.specs.Banks.{IsAnswered}
 use Rattle.flex_base.specs.StoryTree.{Want, Asks, Ends, IsOver, IsParked}
 use Rattle.flex_base.specs.Following.{MayDo}
 use Rattle.flex_base.specs.Classes.{class_of_what}
@@ -14,21 +13,22 @@ use Rattle.flex_base.specs.declared.class.Class.{Class}
 use Rattle.flex_base.specs.declared.engine.Engine.{Engine}
 use Rattle.flex_base.specs.declared.access.Access.{Access}
 use Rattle.flex_base.specs.declared.access.Reply.{Reply}
-use Rattle.flex_base.specs.declared.event.EndPart.{EndPart}
 use Rattle.flex_base.specs.declared.event.What.{What}
 use Rattle.flex_base.specs.declared.event.What.TheVariants as what
 use Rattle.flex_base.proofs.Machines.{step_is, next_asks, next_ends}
 use Rattle.access_record.specs.Buses.{Run, ram_banks, place_in}
-use Rattle.access_record.specs.Histories.{History, history_after, IsAnsweredIn, Grows}
+use Rattle.access_record.specs.Histories.{History, history_after, Grows}
+use Rattle.transplant_plan.specs.Planning.{engine_at}
 use Rattle.transplant_plan.specs.Split.{Splitting}
+use Rattle.transplant_plan.specs.declared.plan.Plan.{Plan}
 use Rattle.mem_banks.specs.Plain.{Plain}
+use Rattle.context.specs.declared.wants.Wants.{Wants}
 use Rattle.context.specs.declared.wants.Wants.TheVariants as wants
 use Rattle.context.specs.Contexts as context
-use Rattle.context.specs.Contexts.{Context, IsOn, IsSame, Adds, Steps, Moves}
+use Rattle.context.specs.Contexts.{Context, IsOn, IsSame, IsPlacedIn, Adds, Steps, Moves}
 use Rattle.context.specs.Obeying.{wants_of}
 use Rattle.solo.specs.Solo.{Solo, engines_of, done_at}
 use Rattle.solo.specs.Standing.{Holds, IsAt, split_of}
-use Rattle.solo.specs.Playing.{WantsOf}
 use Rattle.solo.proofs.Standing.{hart_read, instruction_read, wants_read}
 use Rattle.solo.proofs.Flat.{IsReserved}
 use Rattle.solo.proofs.Serving.{bank_below, device_last, told, serves_access, serves_own, reserved_asked}
@@ -106,34 +106,35 @@ module _ (setup : Setup) (u : Machine) (p : Splitting) (s : Solo) (h : ℕ) (c n
 
 -- What a context wants, by its class.
 
-of_ask : (w : Want) (class : Class) → wants_of w ≡ wants.Ask class → IsOfClass w class
-of_ask (Asks access) class e = cc
-of_ask (Ends part next) class e = absurd cc
-of_ask IsOver class e = absurd cc
-of_ask IsParked class e = absurd cc
+-- a context that wants this wants an event of the class
+abbrev pub TellsClass : (Class → Wants) → Type 0
+TellsClass wanted = (w : Want) (class : Class) → wants_of w ≡ wanted class → IsOfClass w class
 
-of_finish : (w : Want) (class : Class) → wants_of w ≡ wants.Finish class → IsOfClass w class
-of_finish (Asks access) class e = absurd cc
-of_finish (Ends part next) class e = cc
-of_finish IsOver class e = absurd cc
-of_finish IsParked class e = absurd cc
+pub ask_tells : TellsClass wants.Ask
+ask_tells (Asks access) class e = cc
+ask_tells (Ends part next) class e = absurd cc
+ask_tells IsOver class e = absurd cc
+ask_tells IsParked class e = absurd cc
 
--- an access stands where its kind may stand
-abbrev pub IsPlacedIn : Setup → What → Type 0
-IsPlacedIn setup (what.Acc access reply) = IsPlaced setup.harts setup.ram access
-IsPlacedIn setup other = Unit {0}
+pub finish_tells : TellsClass wants.Finish
+finish_tells (Asks access) class e = absurd cc
+finish_tells (Ends part next) class e = cc
+finish_tells IsOver class e = absurd cc
+finish_tells IsParked class e = absurd cc
 
-module _ (setup : Setup) (u : Machine) (p : Splitting) (s : Solo) (h : ℕ) (c new : Context) (bus : Plain) (class : Class) (holds : Holds setup u p s)
+-- An event that it wanted.
+
+module _ (setup : Setup) (u : Machine) (p : Splitting) (s : Solo) (h : ℕ) (c new : Context) (bus : Plain) (wanted : Class → Wants) (holds : Holds setup u p s)
     (below : h < setup.harts) (read : c ≡ get_or s.contexts h c) (same : IsSame c new) (on : IsOn s.bus.run new) (run_same : bus.run ≡ s.bus.run)
-    (wants_it : WantsOf c class) (steps : Steps s.bus.run (Some s.bus.history) (Some bus.history) c new) (placed : IsPlacedIn setup steps.happened) where
+    (tells : TellsClass wanted) (went : context.Goes s.bus.run (Some s.bus.history) (Some bus.history) wanted c new) where
+  abbrev steps : Steps s.bus.run (Some s.bus.history) (Some bus.history) c new
+  steps = went.steps
+
   number_is : c.pass.hart.0 ≡ h
   number_is = (hart_read setup u p s holds h c below read).number
 
-  of_class : IsOfClass (want_of setup u h) class
-  of_class = elim wants_it [
-    | inl asks ↦ of_ask (want_of setup u h) class (wants_read setup u p s holds h c below read (wants.Ask class) asks)
-    | inr ends ↦ of_finish (want_of setup u h) class (wants_read setup u p s holds h c below read (wants.Finish class) ends)
-  ]
+  of_class : IsOfClass (want_of setup u h) went.class
+  of_class = tells (want_of setup u h) went.class (wants_read setup u p s holds h c below read (wanted went.class) went.wanting)
 
   may : MayDo setup (instruction_at u h) steps.happened
   may =
@@ -141,19 +142,28 @@ module _ (setup : Setup) (u : Machine) (p : Splitting) (s : Solo) (h : ℕ) (c n
       let In : Instruction → Type 0 = λ i. MayDo setup i steps.happened in
       subst In (instruction_read setup u p s holds h c below read) (subst At holds.memory.setup_is steps.may)
 
-  pub it_does : Does (want_of setup u h) class steps.happened × (class_of_what steps.happened ≡ class)
-  it_does = does_next setup (instruction_at u h) class steps.happened of_class steps.plain may
+  it_does : Does (want_of setup u h) went.class steps.happened × (class_of_what steps.happened ≡ went.class)
+  it_does = does_next setup (instruction_at u h) went.class steps.happened of_class steps.plain may
 
   in_harts : h < length u.harts
   in_harts = omega (arith, below, holds.halves)
 
-  by_does : Does (want_of setup u h) class steps.happened → IsMadeBy setup u p s h c new bus steps.happened
+  -- the plan has the event in the engine that the context is in
+  pub planned : c.engine ≡ engines_of s.plan h (class_of_what steps.happened)
+  planned =
+      sym went.here
+      ∙ ap (λ (x : Plan). engine_at x.engines went.class) (hart_read setup u p s holds h c below read).plan_is
+      ∙ ap (engines_of s.plan h) (sym it_does.1)
+
+  by_does : Does (want_of setup u h) went.class steps.happened → IsMadeBy setup u p s h c new bus steps.happened
   by_does (Accesses access reply is asks) =
       let Added : What → Type 0 = λ x. Adds s.bus.run (Some s.bus.history) (Some bus.history) x c new in
+      let At : Setup → Type 0 = λ x. IsPlacedIn x steps.happened in
       let Placed : What → Type 0 = λ x. IsPlacedIn setup x in
       let Made : What → Type 0 = λ x. IsMadeBy setup u p s h c new bus x in
+      let placed = subst Placed is (subst At holds.memory.setup_is steps.placed) in
       subst Made (sym is) (access_made setup u p s h c new bus holds below read number_is same on run_same access reply (subst Added is steps.adds) steps.engine
-      (next_asks setup u h access asks) (subst Placed is placed) (reserved_asked setup u h access holds.reached below asks))
+      (next_asks setup u h access asks) placed (reserved_asked setup u h access holds.reached below asks))
   by_does (Finishes part after is ends) =
       let Added : What → Type 0 = λ x. Adds s.bus.run (Some s.bus.history) (Some bus.history) x c new in
       let Made : What → Type 0 = λ x. IsMadeBy setup u p s h c new bus x in
@@ -172,48 +182,45 @@ module _ (setup : Setup) (u : Machine) (p : Splitting) (s : Solo) (h : ℕ) (c n
 -- The state after it.
 
 -- made by a hart that is in the engine of its class
-pub stays_at : (setup : Setup) (u : Machine) (s : Solo) (h : ℕ) (c new : Context) (bus : Plain) (class : Class) (to : Engine) → IsAt setup u s → h < setup.harts
-    → c ≡ get_or s.contexts h c → to ≡ engines_of s.plan h class → c.engine ≡ to → IsSame c new → IsOn s.bus.run new → bus.run ≡ s.bus.run → WantsOf c class
-    → (steps : Steps s.bus.run (Some s.bus.history) (Some bus.history) c new) → IsPlacedIn setup steps.happened
-    → IsAt setup (step setup u h) (with_hart s h new bus)
-stays_at setup u s h c new bus class to at below read goes here same on run_same wants_it steps placed =
+pub stays_at : (setup : Setup) (u : Machine) (s : Solo) (h : ℕ) (c new : Context) (bus : Plain) (wanted : Class → Wants) → IsAt setup u s → h < setup.harts
+    → c ≡ get_or s.contexts h c → IsSame c new → IsOn s.bus.run new → bus.run ≡ s.bus.run → TellsClass wanted
+    → context.Goes s.bus.run (Some s.bus.history) (Some bus.history) wanted c new → IsAt setup (step setup u h) (with_hart s h new bus)
+stays_at setup u s h c new bus wanted at below read same on run_same tells went =
     let p = split_of setup u s in
     let plan = engines_of s.plan in
-    let made = event_made setup u p s h c new bus class at below read same on run_same wants_it steps placed in
-    let does_class = (it_does setup u p s h c new bus class at below read same on run_same wants_it steps placed).1 in
+    let happened = went.steps.happened in
+    let made = event_made setup u p s h c new bus wanted at below read same on run_same tells went in
     let held = (hart_read setup u p s at h c below read).engine_is in
     let in_engines : h < length p.engines = omega (arith, below, at.engines) in
-    let goes_there = goes ∙ ap (plan h) (sym does_class) in
-    let is = ap (λ (x : Engine). grown p h x steps.happened x) here ∙ grown_in plan p h c.engine to steps.happened in_engines held goes_there here in
-    let all = split_more plan setup.harts u.events (step setup u h).events (does h steps.happened) (grown p h c.engine steps.happened c.engine) made.events is in
+    let is = grown_in plan p h c.engine c.engine happened in_engines held (planned setup u p s h c new bus wanted at below read same on run_same tells went) refl in
+    let all = split_more plan setup.harts u.events (step setup u h).events (does h happened) (grown p h c.engine happened c.engine) made.events is in
     let Of : Splitting → Type 0 = λ x. Holds setup (step setup u h) x (with_hart s h new bus) in
     subst Of all made.holds
 
 -- made by a hart that was handed over
-pub moved_at : (setup : Setup) (u : Machine) (s : Solo) (h : ℕ) (c moved new : Context) (between bus : Plain) (class : Class) (to : Engine) → IsAt setup u s
-    → h < setup.harts → c ≡ get_or s.contexts h c → to ≡ engines_of s.plan h class → c.engine ≢ to
+pub moved_at : (setup : Setup) (u : Machine) (s : Solo) (h : ℕ) (c moved new : Context) (between bus : Plain) (to : Engine) (wanted : Class → Wants)
+    → IsAt setup u s → h < setup.harts → c ≡ get_or s.contexts h c → to ≢ c.engine
     → IsSame c moved → IsOn s.bus.run moved → between.run ≡ s.bus.run → Moves s.bus.run (Some s.bus.history) (Some between.history) to c moved
-    → IsSame moved new → IsOn between.run new → bus.run ≡ between.run → WantsOf moved class
-    → (steps : Steps between.run (Some between.history) (Some bus.history) moved new) → IsPlacedIn setup steps.happened
-    → IsAt setup (step setup u h) (with_hart s h new bus)
-moved_at setup u s h c moved new between bus class to at below read goes differ same on run_same moves same' on' run_same' wants_it steps placed =
+    → IsSame moved new → IsOn between.run new → bus.run ≡ between.run → TellsClass wanted
+    → context.Goes between.run (Some between.history) (Some bus.history) wanted moved new → IsAt setup (step setup u h) (with_hart s h new bus)
+moved_at setup u s h c moved new between bus to wanted at below read differ same on run_same moves same' on' run_same' tells went =
     let p = split_of setup u s in
     let plan = engines_of s.plan in
+    let happened = went.steps.happened in
     let first = with_hart s h moved between in
+    let handed_split = grown p h c.engine (what.Handover to) to in
     let there = hart_read setup u p s at h c below read in
     let in_engines : h < length p.engines = omega (arith, below, at.engines) in
     let in_contexts : h < length s.contexts = omega (arith, below, at.counted) in
-    let handed : Holds setup u (grown p h c.engine (what.Handover to) to) first =
+    let handed : Holds setup u handed_split first =
     own_made setup u p s h c moved between at below read there.number same on run_same (what.Handover to) u to moves.adds moves.engine refl refl refl
     (goes_handover setup u h to at.reached) moves.adds.history in
     let read' : moved ≡ get_or first.contexts h moved = sym (get_or-set_same s.contexts h moved moved in_contexts) in
-    let made = event_made setup u (grown p h c.engine (what.Handover to) to) first h moved new bus class handed below read' same' on' run_same' wants_it steps placed in
-    let does_class = (it_does setup u (grown p h c.engine (what.Handover to) to) first h moved new bus class handed below read' same' on' run_same' wants_it steps placed).1 in
-    let goes_there = goes ∙ ap (plan h) (sym does_class) in
-    let is = ap (λ (x : Engine). grown (grown p h c.engine (what.Handover to) to) h x steps.happened x) moves.engine
-    ∙ grown_after plan p h c.engine to steps.happened in_engines there.engine_is goes_there differ in
-    let all = split_more plan setup.harts u.events (step setup u h).events (does h steps.happened)
-    (grown (grown p h c.engine (what.Handover to) to) h moved.engine steps.happened moved.engine) made.events is in
+    let made = event_made setup u handed_split first h moved new bus wanted handed below read' same' on' run_same' tells went in
+    let goes = sym moves.engine ∙ planned setup u handed_split first h moved new bus wanted handed below read' same' on' run_same' tells went in
+    let is = ap (λ (x : Engine). grown handed_split h x happened x) moves.engine
+    ∙ grown_after plan p h c.engine to happened in_engines there.engine_is goes (λ one. differ (sym one)) in
+    let all = split_more plan setup.harts u.events (step setup u h).events (does h happened) (grown handed_split h moved.engine happened moved.engine) made.events is in
     let once : with_hart first h new bus ≡ with_hart s h new bus = ap (λ (cs : List Context). record s { contexts = cs; bus = bus }) (set_twice s.contexts h moved new c in_contexts) in
     let Of : Splitting → Type 0 = λ x. Holds setup (step setup u h) x (with_hart first h new bus) in
     let At : Solo → Type 0 = λ x. IsAt setup (step setup u h) x in

@@ -34,12 +34,14 @@ use Rattle.mem_banks.specs.declared.ended.Ended.{Ended}
 use Rattle.context.specs.Contexts as context
 use Rattle.context.specs.Contexts.{Context, IsContext, events_in}
 use Rattle.solo.specs.Solo.{Solo, engines_of, done_at}
-use Rattle.solo.specs.Rising.{Rises, numbered_from, of_hart}
+use Rattle.journal.specs.Merged.{of_hart}
+use Rattle.solo.specs.Rising.{Rises, numbered_from}
 use Rattle.solo.specs.Standing.{of_bank, Serves, IsAt}
-use Rattle.solo.specs.End.{AreLogsOf, HoldsRam, IsMemoryAt, IsEnd}
+use Rattle.solo.specs.End.{AreHartLogs, HoldsRam, IsMemoryAt, IsEnd}
 use Rattle.solo.proofs.Flat.{byte_of_part}
-use Rattle.solo.proofs.Merging.{merged_parts}
+use Rattle.solo.proofs.Parts.{all_of_harts}
 use Rattle.solo.proofs.Ending.{AreBelow, ascends_below, numbers_known}
+use Rattle.solo.proofs.Taking.{AllHave}
 use Rattle.solo.proofs.Settling.{passes_of, AreNumbered, log_at, each_pass, all_passes}
 
 some_context : (contexts : List Context) → 0 < length contexts → Context
@@ -51,6 +53,7 @@ unfolding AreRecord
 record_of limits n ps ds closed = closed
 
 module _ (setup : Setup) (u : Machine) (s : Solo) (at : IsAt setup u s) where
+  -- the plan's split of what the machine did
   abbrev journal : List Event
   journal = split (engines_of s.plan) setup.harts u.events
 
@@ -58,6 +61,9 @@ module _ (setup : Setup) (u : Machine) (s : Solo) (at : IsAt setup u s) where
   legal =
       let Legal : Machine → Type 0 = λ m. IsLegal setup (split (engines_of s.plan) setup.harts m.events) in
       subst Legal (sym at.reached.is) (split_legal setup (engines_of s.plan) at.reached.order)
+
+  any : Context
+  any = some_context s.contexts (omega (arith, at.some, at.counted))
 
   within : (h : ℕ) → h < setup.harts → h < length s.contexts
   within h below = omega (arith, below, at.counted)
@@ -68,25 +74,23 @@ module _ (setup : Setup) (u : Machine) (s : Solo) (at : IsAt setup u s) where
       (at.each k other (omega (arith, below, at.counted))).number ∙ from
 
   -- the log of a hart's pass has its part
-  log_part : (n : ℕ) (h : ℕ) (other : Context) → h < setup.harts → events_of (logs_of (passes_of s.contexts) h) ≡ of_hart h at.made
-  log_part n h other below =
+  log_part : (h : ℕ) → h < setup.harts → events_of (logs_of (passes_of s.contexts) h) ≡ of_hart h at.made
+  log_part h below =
       let from : h ≡ 0 + h = omega arith in
-      ap (λ k. events_of (logs_of (passes_of s.contexts) k)) from ∙ ap events_of (log_at 0 h s.contexts other numbered (within h below)) ∙ (at.each h other below).events
+      ap (λ k. events_of (logs_of (passes_of s.contexts) k)) from ∙ ap events_of (log_at 0 h s.contexts any numbered (within h below)) ∙ (at.each h any below).events
 
   module _ (limits : Limits) (n : ℕ) (ds : List PassOfBank) (closed : AreRecord limits n (passes_of s.contexts) ds) (harts : limits.harts ≡ setup.harts) where
     abbrev closes : IsRecord limits n (logs_of (passes_of s.contexts)) (bank_logs_of ds)
     closes = record_of limits n (passes_of s.contexts) ds closed
 
-    any : Context
-    any = some_context s.contexts (omega (arith, at.some, at.counted))
-
+    -- the record tells how many events there are, and so the numbers
     known : (numbered_from 0 at.made ≡ at.made) × Rises 0 (length at.made) at.made
     known =
         let below = λ (h : ℕ) (within_h : h < setup.harts).
         let Below : List Event → Type 0 = λ es. AreBelow n es in
-        subst Below (log_part n h any within_h) (ascends_below 0 n (logs_of (passes_of s.contexts) h) (closes.hart_numbers h)) in
+        subst Below (log_part h within_h) (ascends_below 0 n (logs_of (passes_of s.contexts) h) (closes.hart_numbers h)) in
         let lengths = sum_below-same setup.harts (λ h. length (logs_of (passes_of s.contexts) h)) (λ h. length (of_hart h at.made)) (λ h within_h.
-        sym (length-map (logs_of (passes_of s.contexts) h) (λ (e : LogEntry). e.event)) ∙ ap (λ (es : List Event). length es) (log_part n h any within_h)) in
+        sym (length-map (logs_of (passes_of s.contexts) h) (λ (e : LogEntry). e.event)) ∙ ap (λ (es : List Event). length es) (log_part h within_h)) in
         let count = closes.count ∙ ap (λ m. sum_below m (λ h. length (logs_of (passes_of s.contexts) h))) harts ∙ lengths in
         numbers_known setup.harts _ n at.made at.are_made.rises at.are_made.harts_are below count
 
@@ -94,8 +98,8 @@ module _ (setup : Setup) (u : Machine) (s : Solo) (at : IsAt setup u s) where
     journal_made = sym known.0 ∙ at.are_made.journal_is
 
     -- the logs of the contexts are those of the journal
-    pub logs_end : ((h : ℕ) (other : Context) → h < length s.contexts → IsContext (get_or s.contexts h other))
-        → AreLogsOf setup.harts journal (map (λ (c : Context). c.log) s.contexts)
+    pub logs_end : AllHave IsContext s.contexts
+        → AreHartLogs setup.harts journal (map (λ (c : Context). c.log) s.contexts)
     logs_end are =
         let logs = map (λ (c : Context). c.log) s.contexts in
         let count : length logs ≡ setup.harts = length-map s.contexts (λ (c : Context). c.log) ∙ at.counted in
@@ -103,16 +107,24 @@ module _ (setup : Setup) (u : Machine) (s : Solo) (at : IsAt setup u s) where
         ap (λ (l : Log). l.events) (get_or-map (λ (c : Context). c.log) s.contexts h any other (within h below))
         ∙ (are h any (within h below)).whole ∙ (at.each h any below).events in
         let Numbered : List Event → Type 0 = λ es. numbers_of es ≡ range_with_len 0 (length es) in
-        let Of : List Event → Type 0 = λ es. AreLogsOf setup.harts es logs in
+        let Of : List Event → Type 0 = λ es. AreHartLogs setup.harts es logs in
         let numbers = subst Numbered (sym journal_made) legal.numbers in
-        subst Of journal_made (merged_parts setup.harts at.made logs known.1 at.are_made.harts_are numbers count each)
+        let Below : ℕ → Type 0 = λ n. All (λ (e : Event). e.hart.0 < n) at.made in
+        subst Of journal_made (record {
+          counted = count;
+          parts = record {
+            few = omega (arith, count, at.few);
+            numbers = numbers;
+            harts = subst Below (sym count) (all_of_harts setup.harts at.made at.are_made.harts_are);
+            each = λ h other below. each h other (omega (arith, below, count));
+          };
+        })
 
   -- the harts are where the machine's are
-  pub harts_end : ((h : ℕ) (other : Context) → h < length s.contexts → IsContext (get_or s.contexts h other))
+  pub harts_end : AllHave IsContext s.contexts
       → (h : ℕ) (other : Hart) → h < setup.harts → StandsFor (get_or (map (λ (c : Context). c.hart) s.contexts) h other) (instruction_at u h).state
   harts_end are h other below =
-      let c = get_or s.contexts h (some_context s.contexts (omega (arith, at.some, at.counted))) in
-      let any = some_context s.contexts (omega (arith, at.some, at.counted)) in
+      let c = get_or s.contexts h any in
       let is = get_or-map (λ (c : Context). c.hart) s.contexts h any other (within h below) in
       let there = at.each h any below in
       let Of : Setup → Type 0 = λ x. context.IsRunOf c.entry c.settings x in
@@ -164,7 +176,7 @@ module _ (setup : Setup) (u : Machine) (s : Solo) (at : IsAt setup u s) (memory 
         of_run = of;
         founder_is = at.enrolment.founder_is;
         ids = subst Ids (sym are) (all_passes (λ (p : PassOfHart). p.id ≡ s.bus.run.book.id) s.contexts (λ k other below.
-        (at.each k other (omega (arith, below, at.counted))).on.book));
+            (at.each k other (omega (arith, below, at.counted))).on.book));
         harts = subst Each (sym are) (each_pass setup.harts s.founder.harts s.contexts at.enrolment.enrolled at.counted (numbered setup u s at));
       }
 
@@ -201,14 +213,14 @@ module _ (setup : Setup) (u : Machine) (s : Solo) (at : IsAt setup u s) (memory 
 
 -- what is left is the end of the run
 pub is_end : (setup : Setup) (u : Machine) (s : Solo) (plan : Plan) (n : ℕ) (passes : List PassOfHart) (ds : List PassOfBank) (ended : Ended) → IsAt setup u s → s.plan ≡ plan
-    → ((h : ℕ) (other : Context) → h < length s.contexts → IsContext (get_or s.contexts h other))
+    → AllHave IsContext s.contexts
     → ended.harts.items ≡ map (λ (c : Context). c.hart) s.contexts → ended.logs.items ≡ map (λ (c : Context). c.log) s.contexts
     → passes ≡ passes_of s.contexts → AreRecord s.bus.run.book.limits n passes ds
     → device_stop setup.harts u.devices ≡ Some ended.stop → IsMemoryAt setup u ended.memory → IsEnd setup plan u ended
 is_end setup u s plan n passes ds ended at plan_is are harts logs taken closed stop memory =
     let Closed : List PassOfHart → Type 0 = λ ps. AreRecord s.bus.run.book.limits n ps ds in
     let Harts : List Hart → Type 0 = λ hs. (h : ℕ) (other : Hart) → h < setup.harts → StandsFor (get_or hs h other) (instruction_at u h).state in
-    let Logs : Plan × List Log → Type 0 = λ x. AreLogsOf setup.harts (split (engines_of x.0) setup.harts u.events) x.1 in
+    let Logs : Plan × List Log → Type 0 = λ x. AreHartLogs setup.harts (split (engines_of x.0) setup.harts u.events) x.1 in
     record {
       stop_is = stop;
       counted = ap (λ (hs : List Hart). length hs) harts ∙ length-map s.contexts (λ (c : Context). c.hart) ∙ at.counted;

@@ -1,19 +1,17 @@
 -- One flat memory replies what the bank of the access replies: an access lies within one line, and so within one bank.
-use Rattle.std.proofs.Common.{◌≡◌, ◌≢◌, ℕ, ◌+◌, ◌-◌, ◌/◌, ◌%◌, ◌<◌, ◌≤◌, Bool, true, false, not, ◌&&◌, ◌==◌, if◌then◌else◌, List, [], ◌∷◌, fold, Option, None, Some, inl, inr, refl, ap, sym, subst, ◌∙◌, arith, eq-eqb}
-use Rattle.std.specs.List.{filter}
-use Rattle.std.proofs.lemmas.Bool.{cases_eq, cases_Bool, ne_eqb}
-use Rattle.std.proofs.lemmas.Bool.Decides.{eqb_tells}
+use Rattle.std.proofs.Common.{◌≡◌, ◌≢◌, ℕ, ◌+◌, ◌-◌, ◌/◌, ◌%◌, ◌<◌, Bool, true, false, not, ◌&&◌, ◌==◌, if◌then◌else◌, List, [], ◌∷◌, fold, Option, None, Some, inl, inr, refl, ap, sym, subst, ◌∙◌, arith, eq-eqb}
+use Rattle.std.proofs.lemmas.Bool.{cases_eq, ne_eqb}
 use Rattle.flex_base.specs.Setup.{Setup}
 use Rattle.flex_base.specs.Loaded.{Loaded}
-use Rattle.flex_base.specs.FlatMemory.{Done, is_ram_access, covers, byte_at, put, left_by, image_byte, byte, value_at, reservation_set, broken, reserved_after, reserved_by, reservation_of, is_reserved, stands, reply_with, read_at, flat}
+use Rattle.flex_base.specs.FlatMemory.{Done, is_ram_access, byte_at, put, left_by, image_byte, byte, reservation_set, broken, reserved_after, reserved_by, is_reserved, stands, reply_with, read_at, flat}
 use Rattle.flex_base.specs.Arithmetic.{amo_of}
-use Rattle.flex_base.specs.Forms.{IsPlaced, IsInRam, IsWidth, IsAtomicWidth, IsAlignedRam}
-use Rattle.flex_base.specs.Banks.{bank_of, address_of, bank_of_access}
+use Rattle.flex_base.specs.Forms.{IsPlaced, IsWidth, IsAtomicWidth, IsAlignedRam}
+use Rattle.flex_base.specs.Banks.{bank_of, bank_of_access}
 use Rattle.flex_base.specs.Reservations.{reserving, own_after, own_reservation}
 use Rattle.flex_base.specs.declared.access.Access.{Access}
 use Rattle.flex_base.specs.declared.access.Access.TheVariants as acc
 use Rattle.flex_base.specs.declared.access.Reply.{Reply}
-use Rattle.mem_lines.specs.Bank.{Bank, IsIn}
+use Rattle.mem_lines.specs.Bank.{Bank}
 use Rattle.mem_lines.specs.Steps.{IsSpan}
 use Rattle.mem_lines.proofs.Covering.{cases_covers}
 use Rattle.mem_lines.proofs.Dealing.{value_same, span_in}

@@ -1,7 +1,7 @@
 pub mod Rising
 pub mod Rounds
 pub mod Standing
-pub mod Merging
+pub mod Parts
 pub mod Stepping
 pub mod Making
 pub mod Flat
@@ -14,3 +14,4 @@ pub mod Finishing
 pub mod Taking
 pub mod Wakes
 pub mod Trying
+pub mod Beginning

@@ -2,16 +2,15 @@
 use Rattle.std.proofs.Common.{◌≡◌, ◌≢◌, ℕ, ◌<◌, zero, suc, true, false, if◌then◌else◌, List, [], ◌∷◌, ◌++◌, length, set, Some, refl, ap, sym, ◌∙◌, arith}
 use Rattle.std.proofs.lemmas.List.Sums.{fold_push}
 use Rattle.flex_base.specs.Setup.{Setup}
-use Rattle.flex_base.specs.FlatMemory.{Done, reply_with}
+use Rattle.flex_base.specs.FlatMemory.{reply_with}
 use Rattle.flex_base.specs.Classes.{class_of_access, class_of_what}
 use Rattle.flex_base.specs.StoryTree.{Want, Asks, Ends, IsOver, IsParked}
-use Rattle.flex_base.specs.Following.{next_access, MayDo, wanted, instruction_then}
+use Rattle.flex_base.specs.Following.{next_access, MayDo, wanted}
 use Rattle.flex_base.specs.Journal.{is_handover}
-use Rattle.flex_base.specs.Unsplit.{Machine, Made, Instruction, instruction_after, instruction_at, want_of, next_of, reply_to, begin, make, step, reach, does}
+use Rattle.flex_base.specs.Unsplit.{Machine, Made, Instruction, instruction_after, instruction_at, want_of, next_of, reply_to, begin, step, does}
 use Rattle.flex_base.specs.declared.access.Access.{Access}
 use Rattle.flex_base.specs.declared.access.Reply.{Reply}
 use Rattle.flex_base.specs.declared.class.Class.{Class}
-use Rattle.flex_base.specs.declared.class.Class.TheVariants as class
 use Rattle.flex_base.specs.declared.engine.Engine.{Engine}
 use Rattle.flex_base.specs.declared.engine.Engine.TheVariants as engine
 use Rattle.flex_base.specs.declared.event.EndPart.{EndPart}
@@ -19,7 +18,7 @@ use Rattle.flex_base.specs.declared.event.Event.{Event}
 use Rattle.flex_base.specs.declared.event.What.{What}
 use Rattle.flex_base.specs.declared.event.What.TheVariants as what
 use Rattle.flex_base.specs.State.{State}
-use Rattle.flex_base.proofs.Machines.{reach_push, next_asks, next_ends, step_is, length-step, instruction_after_access, instruction_after_end, instruction_at-other}
+use Rattle.flex_base.proofs.Machines.{reach_push, next_ends, step_is, length-step, instruction_after_access, instruction_after_end, instruction_at-other}
 use Rattle.transplant_plan.specs.Split.{Plan, Splitting, split_event, split_run, first_split, holder_of, with_handover, with_number, is_same_engine}
 use Rattle.solo.specs.Standing.{IsReached}
 use Rattle.solo.proofs.Stepping.{Goes, grown}

@@ -1,5 +1,5 @@
 -- Events whose numbers rise. Where there are n of them, each with a number below n, they have the numbers 0, 1, 2 and so on.
-use Rattle.std.proofs.Common.{◌≡◌, ℕ, ◌+◌, ◌<◌, ◌≤◌, zero, suc, List, [], ◌∷◌, ◌++◌, length, refl, ap, sym, subst, ◌∙◌, arith}
+use Rattle.std.proofs.Common.{◌≡◌, ℕ, ◌+◌, ◌<◌, ◌≤◌, suc, List, [], ◌∷◌, ◌++◌, length, refl, ap, sym, subst, ◌∙◌, arith}
 use Rattle.flex_base.specs.Journal.{event}
 use Rattle.flex_base.specs.declared.event.Event.{Event}
 use Rattle.solo.specs.Rising.{Rises, numbered_from, AreOfHarts}

@@ -3,7 +3,7 @@ use Rattle.std.proofs.Common.{◌≡◌, ℕ, ◌+◌, ◌-◌, ◌<◌, ◌≤�
 use Rattle.std.specs.List.{range_with_len}
 use Rattle.std.proofs.lemmas.Bool.{cases_Bool}
 use Rattle.flex_base.specs.Setup.{Setup}
-use Rattle.flex_base.specs.Unsplit.{Machine, step, reach, reach_from, begin, hart_numbers, has_ended, next_of, is_idle}
+use Rattle.flex_base.specs.Unsplit.{Machine, step, reach_from, hart_numbers, has_ended, next_of, is_idle}
 use Rattle.flex_base.specs.Rounds.{turn_of, turns, repeated, most_rounds, rounds}
 use Rattle.flex_base.proofs.Machines.{reach-cons, reach-none, reach-append, reach_push}
 use Rattle.flex_base.proofs.Turns.{turn_of-idle, turns_ended, turns_busy, turns-append}

@@ -1,6 +1,5 @@
 -- The memory of the machine after an access, and its reply.
-use Rattle.std.proofs.Common.{◌≡◌, ◌≢◌, ℕ, ◌+◌, ◌/◌, ◌<◌, Bool, true, false, ◌==◌, if◌then◌else◌, List, [], ◌∷◌, ◌++◌, Some, inl, inr, refl, ap, sym, subst, ◌∙◌, arith, eq-eqb, append-nil}
-use Rattle.std.specs.List.{filter}
+use Rattle.std.proofs.Common.{◌≡◌, ◌≢◌, ℕ, ◌+◌, ◌/◌, ◌<◌, Bool, true, false, ◌==◌, if◌then◌else◌, List, [], ◌∷◌, ◌++◌, inl, inr, ap, sym, subst, ◌∙◌, arith, eq-eqb, append-nil}
 use Rattle.std.proofs.Math.Nat.{mod-lt}
 use Rattle.std.proofs.lemmas.Bool.{cases_eq, cases_Bool, ne_eqb}
 use Rattle.std.proofs.lemmas.List.Elements.{filter-append}
@@ -52,13 +51,13 @@ module _ (setup : Setup) (u : Machine) (bus : Plain) (h : ℕ) (access : Access)
   abbrev banks : ℕ
   banks = ram_banks bus.run
 
-  bank_below : is_ram_access access ≡ true → bank_of_access banks access < banks
+  pub bank_below : is_ram_access access ≡ true → bank_of_access banks access < banks
   bank_below ram =
       let here : bank_of_access banks access ≡ bank_of banks (address_of access) = ap (λ b. if b then bank_of banks (address_of access) else banks) ram in
       let less : bank_of banks (address_of access) < banks = mod-lt (address_of access / 64) (some_banks banks serves.counted) in
       omega (arith, here, less)
 
-  device_last : is_ram_access access ≡ false → bank_of_access banks access ≡ banks
+  pub device_last : is_ram_access access ≡ false → bank_of_access banks access ≡ banks
   device_last device = ap (λ b. if b then bank_of banks (address_of access) else banks) device
 
   -- the bus replies as the machine

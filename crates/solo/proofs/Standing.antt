@@ -1,8 +1,7 @@
 -- What is read of a context of a solo machine.
-use Rattle.std.proofs.Common.{◌≡◌, ℕ, ◌<◌, Bool, true, false, ◌&&◌, List, length, get_or, refl, ap, sym, subst, ◌∙◌, arith}
+use Rattle.std.proofs.Common.{◌≡◌, ℕ, ◌<◌, Bool, true, false, ◌&&◌, get_or, refl, ap, sym, subst, ◌∙◌, arith}
 use Rattle.std.specs.Prelude.{is_some}
 use Rattle.std.specs.List.{list_all}
-use Rattle.std.proofs.lemmas.List.{get_or_default}
 use Rattle.flex_base.specs.Setup.{Setup}
 use Rattle.flex_base.specs.StoryTree.{Want, Asks, Ends, IsOver, IsParked}
 use Rattle.flex_base.specs.Devices.{device_stop}

@@ -1,7 +1,6 @@
 -- An event of a hart, as its context and the bus tell it.
-use Rattle.std.proofs.Common.{◌≡◌, ◌≢◌, ℕ, ◌+◌, ◌<◌, ◌≤◌, Bool, true, false, ◌==◌, if◌then◌else◌, List, [], ◌∷◌, ◌++◌, length, get_or, set, Option, inl, inr, refl, ap, sym, subst, ◌∙◌, arith, eq-eqb, append-nil, length-set, get_or-set_same, get_or-set_other}
+use Rattle.std.proofs.Common.{◌≡◌, ◌≢◌, ℕ, ◌+◌, ◌<◌, ◌≤◌, ◌==◌, if◌then◌else◌, List, [], ◌∷◌, ◌++◌, length, get_or, set, Option, inl, inr, refl, ap, sym, subst, ◌∙◌, arith, eq-eqb, append-nil, length-set, get_or-set_same, get_or-set_other}
 use Rattle.std.proofs.lemmas.Bool.{cases_eq, ne_eqb}
-use Rattle.std.proofs.lemmas.List.{set-get_or}
 use Rattle.std.proofs.lemmas.List.Elements.{filter-append}
 use Rattle.flex_base.specs.Setup.{Setup}
 use Rattle.flex_base.specs.Following.{instruction_of, instruction_then, first_instruction}
@@ -15,16 +14,19 @@ use Rattle.flex_base.specs.declared.hart.HartId.{HartId}
 use Rattle.flex_base.proofs.Following.{leads_to-push}
 use Rattle.access_record.specs.Logs.{log_entry}
 use Rattle.access_record.specs.Buses.{Run, events_of, Extends}
+use Rattle.access_record.specs.Histories.{History}
 use Rattle.access_record.proofs.Extending.{events_of-push}
 use Rattle.transplant_plan.specs.Split.{Splitting, with_number, holder_of}
 use Rattle.mem_banks.specs.Plain.{Plain}
 use Rattle.mem_banks.specs.End.{IsFounderOf}
 use Rattle.context.specs.Contexts.{Context, IsOn, IsSame, events_in}
 use Rattle.solo.specs.Solo.{Solo, engines_of, least_in}
-use Rattle.solo.specs.Rising.{Rises, numbered_from, of_hart}
+use Rattle.journal.specs.Merged.{of_hart}
+use Rattle.solo.specs.Rising.{Rises}
 use Rattle.solo.specs.Standing.{IsReached, Serves, IsMade, IsHart, AreEnrolled, Holds}
 use Rattle.solo.proofs.Rising.{rises_push, numbered_more, harts_push}
 use Rattle.solo.proofs.Standing.{hart_read}
+use Rattle.solo.proofs.Serving.{serves_own}
 
 -- The part of one hart.
 
@@ -157,3 +159,72 @@ module _ (setup : Setup) (u v : Machine) (p : Splitting) (s : Solo) (h : ℕ) (c
     memory = memory;
     enrolment = enrolled;
   }
+
+-- Nothing happened: what a context's events don't tell may differ.
+
+module _ (setup : Setup) (u : Machine) (p : Splitting) (s : Solo) (h : ℕ) (c new : Context) (bus : Plain) (holds : Holds setup u p s) (below : h < setup.harts)
+    (read : c ≡ get_or s.contexts h c) (same : IsSame c new) (events : events_in new ≡ events_in c) (stays : new.engine ≡ c.engine) (on : IsOn s.bus.run new)
+    (run_same : bus.run ≡ s.bus.run) (history : bus.history ≡ s.bus.history) where
+  abbrev same_hart : ℕ → Context → Type 0
+  same_hart k x = IsHart setup u (with_hart s h new bus) holds.made k (holder_of (engines_of s.plan) p k) x
+
+  own_same : same_hart h new
+  own_same =
+      let there = hart_read setup u p s holds h c below read in
+      let On : Run → Type 0 = λ r. IsOn r new in
+      record {
+        on = subst On (sym run_same) on;
+        number = ap (λ (x : HartId). x.0) same.hart ∙ there.number;
+        plan_is = same.plan ∙ there.plan_is;
+        settings_are = same.settings ∙ there.settings_are;
+        instruction = there.instruction ∙ ap (instruction_of setup h) (sym events);
+        events = events ∙ there.events;
+        engine_is = stays ∙ there.engine_is;
+      }
+
+  other_same : (k : ℕ) (other : Context) → k < setup.harts → same_hart k (get_or s.contexts k other)
+  other_same k other below_k =
+      let was = holds.each k other below_k in
+      let On : Run → Type 0 = λ r. IsOn r (get_or s.contexts k other) in
+      record {
+        on = subst On (sym run_same) was.on;
+        number = was.number;
+        plan_is = was.plan_is;
+        settings_are = was.settings_are;
+        instruction = was.instruction;
+        events = was.events;
+        engine_is = was.engine_is;
+      }
+
+  each_same : (k : ℕ) (other : Context) → k < setup.harts → same_hart k (get_or (set s.contexts h new) k other)
+  each_same k other below_k = elim (cases_eq k h) [
+    | inl one ↦
+        let within : h < length s.contexts = omega (arith, below, holds.counted) in
+        let back = ap (λ j. get_or (set s.contexts h new) j other) one ∙ get_or-set_same s.contexts h new other within in
+        let Is : ℕ × Context → Type 0 = λ x. same_hart x.0 x.1 in
+        subst Is (λ i. (sym one i, sym back i)) own_same
+    | inr differs ↦
+        let Is : Context → Type 0 = λ x. same_hart k x in
+        subst Is (sym (get_or-set_other s.contexts h k new other differs)) (other_same k other below_k)
+  ]
+
+  pub holds_still : Holds setup u p (with_hart s h new bus)
+  holds_still =
+      let Made : ℕ → Type 0 = λ n. IsMade setup.harts n p.events holds.made in
+      let Founds : Run → Type 0 = λ r. IsFounderOf r s.founder in
+      record {
+        some = holds.some;
+        few = holds.few;
+        ends = holds.ends;
+        reached = holds.reached;
+        settings_is = holds.settings_is;
+        halves = holds.halves;
+        counted = length-set s.contexts h new ∙ holds.counted;
+        engines = holds.engines;
+        made = holds.made;
+        are_made = subst Made (sym (ap (λ (x : History). x.least) history)) holds.are_made;
+        each = each_same;
+        memory = serves_own setup u u s.bus bus holds.memory run_same (ap (λ (x : History). length x.banks) history) refl refl
+            (λ bank. ap (λ (x : History). get_or x.banks bank []) history);
+        enrolment = record { founder_is = subst Founds (sym run_same) holds.enrolment.founder_is; enrolled = holds.enrolment.enrolled };
+      }

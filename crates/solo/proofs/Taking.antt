@@ -25,7 +25,7 @@ module _ {A B : Type 0} (f : A → B) where
 
 -- each of these has it
 abbrev pub AllHave : {A : Type 0} → (A → Type 0) → List A → Type 0
-AllHave P xs = (k : ℕ) (other : _) → k < length xs → P (get_or xs k other)
+AllHave {A} P xs = (k : ℕ) (other : A) → k < length xs → P (get_or xs k other)
 
 pub have_none : {A : Type 0} (P : A → Type 0) (xs : List A) → xs ≡ [] → AllHave P xs
 have_none P xs none k other below = absurd (let count : length xs ≡ 0 = ap length none in omega (arith, below, count))

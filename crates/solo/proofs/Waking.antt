@@ -1,5 +1,5 @@
 -- A parked hart that the devices have woken, or haven't.
-use Rattle.std.proofs.Common.{◌≡◌, ℕ, ◌<◌, true, false, Option, refl, ap, sym, subst, ◌∙◌}
+use Rattle.std.proofs.Common.{◌≡◌, ℕ, ◌<◌, true, false, Option, refl, ap, subst}
 use Rattle.flex_base.specs.Setup.{Setup}
 use Rattle.flex_base.specs.StoryTree.{IsParked}
 use Rattle.flex_base.specs.Devices.{hart_at, is_woken, is_unwoken, devices}

@@ -1,16 +1,14 @@
 -- The end of a run, and the state of the unsplit machine that it is.
 use Rattle.std.specs.Prelude.{◌≡◌, ℕ, ◌<◌, true, List, length, slice_index_or, None, Some}
-use Rattle.std.specs.List.{range_with_len}
 use Rattle.flex_base.specs.Setup.{Setup}
 use Rattle.flex_base.specs.FlatMemory.{byte}
 use Rattle.flex_base.specs.Devices.{device_stop}
-use Rattle.flex_base.specs.Journal.{numbers_of}
-use Rattle.flex_base.specs.Merging.{merge}
 use Rattle.flex_base.specs.Unsplit.{Machine, instruction_at}
 use Rattle.flex_base.specs.declared.event.Event.{Event}
 use Rattle.hart_story.specs.StandsFor.{StandsFor}
 use Rattle.hart_story.specs.declared.hart.Hart.{Hart}
-use Rattle.journal.specs.Log.{Log, all_events}
+use Rattle.journal.specs.Log.{Log}
+use Rattle.journal.specs.Merged.{AreLogsOf}
 use Rattle.mem_lines.specs.Bank.{Bank, is_bank_count, IsBank, IsIn, byte_held}
 use Rattle.devices.specs.View.{IsReplay}
 use Rattle.transplant_plan.specs.Split.{split}
@@ -18,16 +16,11 @@ use Rattle.transplant_plan.specs.declared.plan.Plan.{Plan}
 use Rattle.mem_banks.specs.End.{Memory}
 use Rattle.mem_banks.specs.declared.ended.Ended.{Ended}
 use Rattle.solo.specs.Solo.{engines_of}
-use Rattle.solo.specs.Rising.{AreOfHarts, of_hart}
 
--- the journal is of these harts and numbered 0, 1, 2 and so on. The logs are those of the harts in rising order: each has
--- the hart's events of the journal, and the merge of all is the journal
-pub record AreLogsOf (harts : ℕ) (journal : List Event) (logs : List Log) : Type 0 where
+-- the logs of the harts in rising order, of this journal
+pub record AreHartLogs (harts : ℕ) (journal : List Event) (logs : List Log) : Type 0 where
   pub counted : length logs ≡ harts
-  pub each : (h : ℕ) (other : Log) → h < harts → (slice_index_or logs h other).events ≡ of_hart h journal
-  pub merged : merge (length journal) (all_events logs) ≡ journal
-  pub numbers : numbers_of journal ≡ range_with_len 0 (length journal)
-  pub harts_are : AreOfHarts harts journal
+  pub parts : AreLogsOf journal logs
 
 -- each byte of the bank is as the machine's accesses have left it
 pub record HoldsRam (setup : Setup) (u : Machine) (banks bank : ℕ) (b : Bank) : Type 0 where
@@ -49,5 +42,5 @@ pub record IsEnd (setup : Setup) (plan : Plan) (u : Machine) (ended : Ended) : T
   pub counted : length ended.harts.items ≡ setup.harts
   pub harts : (h : ℕ) (other : Hart) → h < setup.harts
       → StandsFor (slice_index_or ended.harts.items h other) (instruction_at u h).state
-  pub logs : AreLogsOf setup.harts (split (engines_of plan) setup.harts u.events) ended.logs.items
+  pub logs : AreHartLogs setup.harts (split (engines_of plan) setup.harts u.events) ended.logs.items
   pub memory : IsMemoryAt setup u ended.memory

@@ -1,11 +1,8 @@
 -- How far a turn or a round is.
-use Rattle.std.specs.Prelude.{◌≡◌, ◌⊎◌, ℕ, ◌<◌, Bool, true, false, List, [], ◌∷◌, ◌++◌}
+use Rattle.std.specs.Prelude.{◌≡◌, ℕ, ◌<◌, Bool, true, false, List, [], ◌∷◌, ◌++◌}
 use Rattle.flex_base.specs.Setup.{Setup}
 use Rattle.flex_base.specs.Unsplit.{Machine, want_of, is_idle, step, reach_from, hart_numbers}
 use Rattle.flex_base.specs.Rounds.{turn_of, turns, repeated, most_rounds}
-use Rattle.flex_base.specs.declared.class.Class.{Class}
-use Rattle.context.specs.Contexts.{Context, IsWanting}
-use Rattle.context.specs.declared.wants.Wants.TheVariants as wants
 use Rattle.solo.specs.Solo.{Solo}
 use Rattle.solo.specs.Standing.{IsAt}
 use Rattle.solo.specs.declared.machine.Step.{Step}
@@ -15,10 +12,6 @@ use Rattle.solo.specs.declared.machine.Step.TheVariants as step_of
 abbrev pub TellsIdle : Setup → Machine → Bool → Type 0
 TellsIdle setup u true = (h : ℕ) → h < setup.harts → is_idle (want_of setup u h) ≡ true
 TellsIdle setup u false = (h : ℕ) × (h < setup.harts) × (is_idle (want_of setup u h) ≡ false)
-
--- the context wants an event of this class
-abbrev pub WantsOf : Context → Class → Type 0
-WantsOf c class = IsWanting c (wants.Ask class) ⊎ IsWanting c (wants.Finish class)
 
 -- the hart made an access, and its turn goes on
 pub record Accesses (setup : Setup) (u : Machine) (h : ℕ) (s : Solo) : Type 0 where

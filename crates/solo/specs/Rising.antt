@@ -1,5 +1,5 @@
 -- Events in the order in which they were made: their numbers rise.
-use Rattle.std.specs.Prelude.{ℕ, suc, ◌<◌, ◌≤◌, ◌==◌, List, [], ◌∷◌, filter}
+use Rattle.std.specs.Prelude.{ℕ, suc, ◌<◌, ◌≤◌, List, [], ◌∷◌}
 use Rattle.flex_base.specs.Journal.{event}
 use Rattle.flex_base.specs.declared.event.Event.{Event}
 
@@ -17,7 +17,3 @@ numbered_from n (e ∷ events) = event n e.hart.0 e.engine e.what ∷ numbered_f
 abbrev pub AreOfHarts : ℕ → List Event → Type 0
 AreOfHarts harts [] = Unit {0}
 AreOfHarts harts (e ∷ events) = (e.hart.0 < harts) × AreOfHarts harts events
-
--- those of one hart
-unfoldable pub of_hart : ℕ → List Event → List Event
-of_hart hart events = filter (λ (e : Event). e.hart.0 == hart) events

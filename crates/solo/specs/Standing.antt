@@ -17,7 +17,8 @@ use Rattle.mem_banks.specs.Plain.{Plain, numbers_below}
 use Rattle.mem_banks.specs.End.{IsFounderOf}
 use Rattle.context.specs.Contexts.{Context, IsOn, events_in}
 use Rattle.solo.specs.Solo.{Solo, settings_of, engines_of, done_at, least_in, bank_count}
-use Rattle.solo.specs.Rising.{Rises, numbered_from, AreOfHarts, of_hart}
+use Rattle.journal.specs.Merged.{of_hart}
+use Rattle.solo.specs.Rising.{Rises, numbered_from, AreOfHarts}
 
 -- this is where some order leads
 pub record IsReached (setup : Setup) (u : Machine) : Type 0 where

@@ -1,5 +1,6 @@
-ghost use Rattle.std.specs.Prelude.{◌≡◌, ◌<◌, ◌≤◌, ℕ, IfOk, map, slice_index_or, vec_len, vec_capacity};
+ghost use Rattle.std.specs.Prelude.{◌≡◌, ◌<◌, ◌≤◌, ℕ, true, IfOk, map, slice_index_or, vec_len, vec_capacity};
 ghost use Rattle.flex_base.specs.declared.settings.Settings.{Settings};
+ghost use Rattle.flex_base.specs.Limits.{is_lawful};
 ghost use Rattle.context.specs.Contexts.{Context, IsContext};
 ghost use Rattle.solo.specs.Room.{are_empty};
 
@@ -20,6 +21,7 @@ pub(crate) struct Parts {
 
 // An empty log for each hart, with room for 24 events an end and 24 more.
 pub(crate) fn empty_logs(alloc: Global, settings: &Settings) -> Result<Vec<HartLog>, AllocError>
+    requires { is_lawful settings.now ≡ true }
     ensures logs { IfOk result (λ logs. logs.items ≡ are_empty settings.now settings.now.harts) }
     ensures room { IfOk result (λ logs. settings.now.harts ≤ vec_capacity logs) }
 {

@@ -80,12 +80,8 @@ fn needs_after_the_pulse(rt: &impl Abort) {
 // What a hart needs that has fetched this word.
 pub(super) fn need_of(hart: &Hart, word: u32) -> Need {
     let layout = layout();
-    let found = Found::none();
-    let progress = Progress {
-        stage: work(hart, &layout, &found, word),
-        lines: 0,
-        found,
-    };
+    let mut progress = Progress::begin();
+    work(hart, &layout, &Found::none(), &mut progress.stage, word);
     need(hart, &progress, &layout, BUDGET)
 }
 

@@ -1,5 +1,5 @@
 -- An aligned address is translated, and the instruction goes on by what that has come to.
-use Rattle.std.proofs.Common.{◌≡◌, ◌%◌, Bool, true, if◌then◌else◌, ap, sym, ◌∙◌, eq-eqb}
+use Rattle.std.proofs.Common.{◌%◌, Bool, if◌then◌else◌, ap, sym, ◌∙◌, eq-eqb}
 use Rattle.flex_base.specs.Causes.{misaligned}
 use Rattle.flex_base.specs.State.{State}
 use Rattle.flex_base.specs.Ends.{traps}
@@ -21,11 +21,11 @@ returns-clause-reaches c = λ setup budget a of seen.
     ∙ c.translate-came.ensures.translates setup budget a (reaching c.args.work setup) of seen
     ∙ ap (λ (k : Kind). translated_of setup.ram a k c.args.work.address (reaching c.args.work setup) c.translate-came.result)
     c.kind_of-kind.ensures
-    ∙ c.access_stage.ensures.goes setup budget a of seen.shows
-    ∙ ap (λ (b : State). stage_of setup b c.access_stage.result) (c.translate-came.ensures.same a)
+    ∙ c.set_access_stage.ensures.goes setup budget a of seen.shows
+    ∙ ap (λ (b : State). stage_of setup b c.set_access_stage.new.stage) (c.translate-came.ensures.same a)
 
 pub returns-clause-sound : goal.returns-clause-sound
-returns-clause-sound c = λ count few. c.access_stage.ensures.sound count
+returns-clause-sound c = λ count few. c.set_access_stage.ensures.sound count
     (record {
       of_memory = c.requires;
       aligned = eq-eqb (c.args.work.address % c.args.work.width) 0 c.if-work-ne0.false;

@@ -2,7 +2,7 @@
 use Rattle.std.proofs.Common.{◌≡◌, ◌<◌, false, ap, sym, ◌∙◌, arith}
 use Rattle.flex_base.specs.Place.{in_ram}
 use Rattle.flex_base.specs.Ends.{traps}
-use Rattle.sv39.specs.IsAfter.{ahead, entries_left}
+use Rattle.sv39.specs.IsAfter.{ahead}
 use Rattle.hart_story.proofs.Walking.{is_reading, walks_leaf, walks_fault, walks_outside}
 use Rattle.hart_story.proofs.translation.arrive.Goals as goal
 

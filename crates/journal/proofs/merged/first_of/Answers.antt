@@ -11,7 +11,7 @@ loop-at-preserved c =
     let within : at < length c.args.rests.now = search rules in
     let its = get_or-map events_left c.args.rests.now at _ [] within in
     λ h from below. elim (cases_eq h at) [
-    | inl same ↦ subst (λ (k : ℕ). (begins_with c.args.number (get_or rests k []) ≡ false) × is_in_range (get_or rests k [])) (sym same)
+      | inl same ↦ subst (λ (k : ℕ). (begins_with c.args.number (get_or rests k []) ≡ false) × is_in_range (get_or rests k [])) (sym same)
           (ap (begins_with c.args.number) its ∙ sym c.begins_with.ensures.is ∙ c.if-begins_with.false, subst is_in_range (sym its) c.begins_with.ensures.range)
-    | inr other ↦ c.loop-at.invariant h from (omega (arith, below, other))
-]
+      | inr other ↦ c.loop-at.invariant h from (omega (arith, below, other))
+    ]

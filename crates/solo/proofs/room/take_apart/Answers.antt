@@ -8,8 +8,7 @@ pub loop-context-preserved : goal.loop-context-preserved
 loop-context-preserved c =
     let x = c.in-Some.context in
     let last = c.in-Some.ensures.items in
-    let left = c.pop.new.self.items in
-    (
+    let left = c.pop.new.self.items in (
       search rules,
       search rules,
       search rules,

@@ -1,7 +1,7 @@
 -- The end is the one to which the hart's instruction comes, and the next one begins.
 use Rattle.std.proofs.Common.{◌<◌, sym, subst, arith}
 use Rattle.context.specs.Contexts.{Context, IsEnding, IsOn}
-use Rattle.context.proofs.Keeping.{in_run, has_room, is_given, gained, ending_in, makes_end, steps_end, steps_from, on_run}
+use Rattle.context.proofs.Keeping.{in_run, has_room, is_given, gained, ending_in, leads_to, makes_end, steps_end, steps_from, on_run}
 use Rattle.context.proofs.context.HartContext.make_end.Goals as goal
 
 pub finish_in_place-part-requires : goal.finish_in_place-part-requires
@@ -32,7 +32,8 @@ invariant_of-self g c =
     let some = subst Some (sym c.self.view_is) c.requires.left in
     let gains = gained _ _ _ _ _ _ _ c.note-number.ensures.noted c.hart.ensures c.push_end.ensures in
     makes_end _ _ _ _ _ _ c.finish_in_place-part.result _ _ _ _ c.self.invariant of ending gains c.layout_of-layout.ensures
-    c.finish_in_place-part.ensures.ends c.finish_in_place-part.ensures.count c.finish_in_place-part.ensures.begun (omega (arith, some))
+    c.finish_in_place-part.ensures.ends c.finish_in_place-part.ensures.count
+    (leads_to _ _ _ _ _ c.finish_in_place-part.ensures.begun c.lead_in.ensures.same) (omega (arith, some))
 
 pub returns-clause-one : goal.returns-clause-one
 returns-clause-one g c =
@@ -44,11 +45,11 @@ returns-clause-one g c =
     let some = subst Some (sym c.self.view_is) c.requires.left in
     let gains = gained _ _ _ _ _ _ _ c.note-number.ensures.noted c.hart.ensures c.push_end.ensures in
     steps_from _ _ _ _ _ _ c.self.view_is
-    (steps_end _ _ _ _ _ c.finish_in_place-part.new.progress _ _ _ c.finish_in_place-part.result _ _ _ c.self.invariant of ending gains
+    (steps_end _ _ _ _ _ c.lead_in.new.progress _ _ _ c.finish_in_place-part.result _ _ _ c.self.invariant of ending gains
     c.note-number.ensures.history c.layout_of-layout.ensures c.finish_in_place-part.ensures.ends (omega (arith, some)))
 
 pub returns-clause-on : goal.returns-clause-on
 returns-clause-on g c =
     let On : Context → Type 0 = λ k. IsOn (g.B.Bus.run c.args.bus.now) k in
     let gains = gained _ _ _ _ _ _ _ c.note-number.ensures.noted c.hart.ensures c.push_end.ensures in
-    on_run _ _ c.finish_in_place-part.new.progress _ _ _ _ _ _ _ c.self.invariant gains _ (subst On (sym c.self.view_is) c.requires.on) tt
+    on_run _ _ c.lead_in.new.progress _ _ _ _ _ _ _ c.self.invariant gains _ (subst On (sym c.self.view_is) c.requires.on) tt

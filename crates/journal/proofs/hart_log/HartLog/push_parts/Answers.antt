@@ -1,4 +1,6 @@
 use Rattle.std.proofs.Common.{◌≡◌, ℕ, ◌-◌, ◌++◌, [], ◌∷◌, append-nil, sym, ap, ◌∙◌}
+use Rattle.std.specs.Prelude.{Vec, vec_capacity}
+use Rattle.std.specs.declared.alloc.Global.{Global}
 use Rattle.flex_base.specs.declared.event.Event.{Event}
 use Rattle.journal.specs.Packing.{event_by, event_of, view_of, what_of}
 use Rattle.journal.specs.declared.kept.Kept.{Kept}
@@ -27,16 +29,16 @@ returns c =
     let i = c.self.inside in
     let m = c.match-last.self-inside in
     let new = c.push_reserved-2.new.self.items in
-    let from : (beside : m.beside.items ≡ i.beside.items ++ more_beside k n) (kept : m.kept.items ≡ i.kept.items) (whole : m.whole ≡ i.whole)
-    → view_of new m.beside.items m.whole ≡ record { events = c.args.self.now.events ++ event ∷ []; room = c.args.self.now.room - 1 } =
-    λ beside kept whole. ap (view_of new m.beside.items) whole
-    ∙ pushed c.args.self.now event i.kept.items i.beside.items i.whole k n new m.beside.items c.self.view_is c.self.invariant.told is
-    (c.push_reserved-2.ensures.items ∙ ap (λ ks. ks ++ k ∷ []) kept) beside in
+    let from : (beside : m.beside.value.items ≡ i.beside.value.items ++ more_beside k n) (kept : m.kept ≡ i.kept)
+    → view_of new m.beside.value.items (vec_capacity c.push_reserved-2.new.self) ≡ record { events = c.args.self.now.events ++ event ∷ []; room = c.args.self.now.room - 1 } =
+    λ beside kept. ap (view_of new m.beside.value.items) (c.push_reserved-2.ensures.capacity ∙ ap (λ v. vec_capacity v) kept)
+    ∙ pushed c.args.self.now event i.kept.items i.beside.value.items (vec_capacity i.kept) k n new m.beside.value.items c.self.view_is c.self.invariant.told is
+    (c.push_reserved-2.ensures.items ∙ ap (λ v. v.items ++ k ∷ []) kept) beside in
     elim c.match-last.branch [
       | in-Beside w ↦
-          from (ap (λ (x : Inside). x.beside.items) w.self-inside-is ∙ w.push_reserved.ensures.items ∙ ap (λ l. i.beside.items ++ l) (sym (more_beside-beside k n w.in-Beside.is)))
-          (ap (λ (x : Inside). x.kept.items) w.self-inside-is) (ap (λ (x : Inside). x.whole) w.self-inside-is)
+          from (ap (λ (x : Inside). x.beside.value.items) w.self-inside-is ∙ w.push_reserved.ensures.items ∙ ap (λ (v : Vec ℕ Global). v.items ++ n ∷ []) w.deref_mut.ensures.value ∙ ap (λ l. i.beside.value.items ++ l) (sym (more_beside-beside k n w.in-Beside.is)))
+          (ap (λ (x : Inside). x.kept) w.self-inside-is)
       | in_default w ↦
-          from (ap (λ (x : Inside). x.beside.items) w.self-inside-is ∙ sym (append-nil i.beside.items) ∙ ap (λ l. i.beside.items ++ l) (sym (more_beside-small k n w.in_default.not-Beside)))
-          (ap (λ (x : Inside). x.kept.items) w.self-inside-is) (ap (λ (x : Inside). x.whole) w.self-inside-is)
+          from (ap (λ (x : Inside). x.beside.value.items) w.self-inside-is ∙ sym (append-nil i.beside.value.items) ∙ ap (λ l. i.beside.value.items ++ l) (sym (more_beside-small k n w.in_default.not-Beside)))
+          (ap (λ (x : Inside). x.kept) w.self-inside-is)
     ]

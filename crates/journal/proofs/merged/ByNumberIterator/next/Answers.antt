@@ -13,22 +13,25 @@ returns-in_default c =
     record { steps = (none, none); goes = search rules }
 
 -- the event is the first that is left, and the rest is kept
-next : (c : goal.After-of) → (x : Event) × (c.next-next.result ≡ Some x)
-    × (merged (map events_left c.self.inside.rests) ≡ x ∷ merged (map events_left (set c.self.inside.rests c.in-Some.at c.of.result)))
-    × IsByNumber (map events_left (set c.self.inside.rests c.in-Some.at c.of.result)) c.self.inside.count c.in-Some.at ((c.self.inside.number + 1) % 2 ^ 64)
+next : (c : goal.After-take_first) → (x : Event) × (c.take_first.result ≡ Some x)
+    × (merged (map events_left c.self.inside.rests) ≡ x ∷ merged (map events_left (set c.self.inside.rests c.in-Some.at c.take_first.new.self)))
+    × IsByNumber (map events_left (set c.self.inside.rests c.in-Some.at c.take_first.new.self)) c.self.inside.count c.in-Some.at ((c.self.inside.number + 1) % 2 ^ 64)
 next c =
     let i = c.self.invariant in
     let rests = map events_left c.self.inside.rests in
     let at : ℕ = c.in-Some.at in
     let within : at < length c.self.inside.rests = omega (arith, i.size, length-map c.self.inside.rests events_left, c.in-Some.ensures.within) in
-    let its : get_or rests at [] ≡ c.events-rest.result = get_or-map events_left c.self.inside.rests at _ [] within ∙ sym c.events-rest.ensures in
+    let its = get_or-map events_left c.self.inside.rests at _ [] within in
     let begins : begins_with c.self.inside.number (get_or rests at []) ≡ true = c.in-Some.ensures.found in
-    let (x, is, first) = yields_next c.self.inside.number _ _ c.next-next.result c.next-next.ensures.steps (sym (ap (begins_with c.self.inside.number) its) ∙ begins) in
-    let (all, keeps) = taken rests _ _ _ i at x c.next-next.new.self c.in-Some.ensures.within begins (its ∙ first) in
-    let new : set rests at c.next-next.new.self ≡ map events_left (set c.self.inside.rests at c.of.result) =
-    ap (set rests at) (sym c.of.ensures) ∙ sym (map-set events_left c.self.inside.rests at c.of.result) in
-    (x, is, all ∙ ap (λ (rs : List (List Event)). x ∷ merged rs) new,
-    subst (λ (rs : List (List Event)). IsByNumber rs c.self.inside.count at ((c.self.inside.number + 1) % 2 ^ 64)) new keeps)
+    let (x, is, first) = yields_next c.self.inside.number _ _ c.take_first.result c.take_first.ensures (sym (ap (begins_with c.self.inside.number) its) ∙ begins) in
+    let (all, keeps) = taken rests _ _ _ i at x (events_left c.take_first.new.self) c.in-Some.ensures.within begins (its ∙ first) in
+    let new : set rests at (events_left c.take_first.new.self) ≡ map events_left (set c.self.inside.rests at c.take_first.new.self) =
+    sym (map-set events_left c.self.inside.rests at c.take_first.new.self) in (
+      x,
+      is,
+      all ∙ ap (λ (rs : List (List Event)). x ∷ merged rs) new,
+      subst (λ (rs : List (List Event)). IsByNumber rs c.self.inside.count at ((c.self.inside.number + 1) % 2 ^ 64)) new keeps,
+    )
 
 pub invariant_of-self : goal.invariant_of-self
 invariant_of-self c = let (x, is, all, keeps) = next c in keeps

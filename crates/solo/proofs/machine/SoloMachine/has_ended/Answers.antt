@@ -1,5 +1,5 @@
 -- A stop stands, and no hart goes on by itself.
-use Rattle.std.proofs.Common.{ap, sym, ◌∙◌}
+use Rattle.std.proofs.Common.{true, ap, sym, ◌∙◌}
 use Rattle.std.specs.Prelude.{is_some}
 use Rattle.solo.proofs.Standing.{ended_is}
 use Rattle.solo.proofs.machine.SoloMachine.has_ended.Goals as goal

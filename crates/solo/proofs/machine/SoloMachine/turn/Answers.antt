@@ -1,5 +1,5 @@
 -- The turn goes on where the step left it.
-use Rattle.std.proofs.Common.{◌≡◌, ◌<◌, refl, subst, ◌∙◌, arith}
+use Rattle.std.proofs.Common.{◌<◌, refl, subst, ◌∙◌, arith}
 use Rattle.solo.specs.Playing.{AfterStep}
 use Rattle.solo.specs.declared.machine.Step.{Step}
 use Rattle.solo.proofs.Standing.{harts_are}
