@@ -56,7 +56,6 @@ pub fn need(hart: &Hart, progress: &Progress, layout: &Layout, budget: u64) -> N
 }
 
 // A hart that has spent its budget retires, also where a pulse is due.
-#[inline(never)]
 fn first_need(hart: &Hart, layout: &Layout, budget: u64) -> Need
     ensures told { (setup : Setup) (a : State) → IsOf setup layout.now budget → StandsFor hart.now a
         → IsFit setup.harts setup.ram setup.budget a → result ≡ need_of (want (story setup a)) }
@@ -135,7 +134,6 @@ fn fetch_need_at(layout: &Layout, address: u64) -> Need
 }
 
 // A walk asks for its next entry.
-#[inline(never)]
 fn walk_need(walk: &Walk) -> Need
     ensures told { (ram : ℕ) (a : State) (k : Kind) (va : ℕ) (next : State → ℕ → Story) → IsReading ram walk.now
         → result ≡ need_of (want (walking ram a k va next walk.now)) }

@@ -1,4 +1,4 @@
-ghost use Rattle.std.specs.Prelude.{◌≡◌, ◌+◌, ◌-◌, ◌≤◌, [], ◌∷◌, ◌++◌, length, vec_capacity, IfOk, OnOk};
+ghost use Rattle.std.specs.Prelude.{◌≡◌, ◌+◌, ◌-◌, ◌≤◌, [], ◌∷◌, ◌++◌, length, vec_capacity, IfOk};
 ghost use Rattle.flex_base.specs.Journal.{event};
 ghost use Rattle.journal.specs.Log.{Log};
 ghost use Rattle.journal.specs.Packing.{view_of, what_of};
@@ -13,9 +13,6 @@ use crate::rest::Rest;
 use flex_base::{Access, EndPart, Engine, Event, HartId, Reply, What};
 use std::alloc::{AllocError, Global};
 use std::marker::Model;
-
-// For how many more events `grow` makes room.
-const MORE: usize = 65_536;
 
 /// The events of a hart, in order, with room for so many of them. Contracts see the list of events
 /// and the room that is left.
@@ -46,17 +43,6 @@ impl HartLog {
         let kept = Vec::with_capacity(alloc, room as usize)?;
         let beside = Box::new(alloc, Vec::with_capacity(alloc, room as usize)?)?;
         Ok(HartLog { kept, beside })
-    }
-
-    /// Makes room for 65,536 events. The error is want of memory.
-    #[cold]
-    pub fn grow(&mut self) -> Result<(), AllocError>
-        ensures events { self.new.events ≡ self.old.events }
-        ensures room { OnOk result (65536 ≤ self.new.room) }
-    {
-        // What was reserved beside is no harm where there is no memory for the events.
-        self.beside.reserve(self.kept.len() + MORE)?;
-        self.kept.reserve_exact(MORE)
     }
 
     /// Adds an event at the end. It takes no memory.
