@@ -44,7 +44,7 @@ pub struct HartContext {
     engine: Engine,
 }
 
-const _: () = prove!(size_of::<HartContext>() <= 960);
+const _: () = prove!(size_of::<HartContext>() <= 872);
 
 impl Model for HartContext {
     ghost use Rattle.context.specs.Contexts.{Context, context_of, IsContext};
