@@ -1,6 +1,6 @@
-use Rattle.std.proofs.Common.{◌≡◌, ℕ, ◌+◌, ◌-◌, ◌<◌, List, slice_index, take, drop, get_or, ap, subst, sym, ◌∙◌, arith}
+use Rattle.std.proofs.Common.{◌≡◌, ℕ, ◌+◌, ◌-◌, ◌<◌, List, slice_index, drop, ap, subst, sym, ◌∙◌, arith}
 use Rattle.std.proofs.lemmas.List.{get_or-drop, get_or-take}
-use Rattle.mem_lines.specs.Bank.{Bank, IsIn, offset, byte_held}
+use Rattle.mem_lines.specs.Bank.{Bank, IsIn}
 use Rattle.mem_lines.proofs.Whole.{line_within, line_byte}
 use Rattle.mem_lines.proofs.lines.Lines.line.Goals as goal
 

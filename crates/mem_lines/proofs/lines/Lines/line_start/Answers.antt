@@ -1,5 +1,5 @@
-use Rattle.std.proofs.Common.{ap, subst, ◌+◌, ◌≤◌, length, sym, ◌∙◌}
-use Rattle.mem_lines.specs.Bank.{Bank, IsIn, offset}
+use Rattle.std.proofs.Common.{subst, ◌+◌, ◌≤◌, length, sym}
+use Rattle.mem_lines.specs.Bank.{Bank, IsIn}
 use Rattle.mem_lines.proofs.Whole.{line_within}
 use Rattle.mem_lines.proofs.lines.Lines.line_start.Goals as goal
 
