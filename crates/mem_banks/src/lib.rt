@@ -7,16 +7,22 @@
 
 mod at_bank;
 mod at_devices;
+mod bank_cell;
+mod device_cell;
 mod end_memory;
 mod ended;
 mod origin;
 mod places;
 mod plain_bus;
+mod run_name;
 mod slots;
 
+pub use bank_cell::BankCell;
+pub use device_cell::DeviceCell;
 pub use end_memory::EndMemory;
 pub use ended::Ended;
 pub use plain_bus::PlainBus;
+pub use run_name::RunName;
 
 #[cfg(test)]
 mod tests;
