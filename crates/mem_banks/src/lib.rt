@@ -8,6 +8,7 @@
 mod at_bank;
 mod at_devices;
 mod bank_cell;
+mod banks;
 mod device_cell;
 mod end_memory;
 mod ended;
@@ -15,14 +16,17 @@ mod origin;
 mod places;
 mod plain_bus;
 mod run_name;
+mod shared_bus;
 mod slots;
 
 pub use bank_cell::BankCell;
+pub use banks::{Banks, LockRoom};
 pub use device_cell::DeviceCell;
 pub use end_memory::EndMemory;
 pub use ended::Ended;
 pub use plain_bus::PlainBus;
 pub use run_name::RunName;
+pub use shared_bus::SharedBus;
 
 #[cfg(test)]
 mod tests;
