@@ -1,5 +1,5 @@
 -- What the banks of a bus of one thread have done, and what an event adds.
-use Rattle.std.proofs.Common.{◌≡◌, ℕ, zero, suc, ◌+◌, ◌<◌, ◌≤◌, false, List, [], ◌∷◌, ◌++◌, map, length, set, replicate, refl, sym, ap, ◌∙◌, subst, Option, None, Some, arith}
+use Rattle.std.proofs.Common.{◌≡◌, ℕ, zero, suc, ◌+◌, ◌<◌, ◌≤◌, List, [], ◌∷◌, ◌++◌, map, length, set, replicate, refl, sym, ap, ◌∙◌, subst, Option, None, Some, arith}
 use Rattle.std.specs.Prelude.{slice_index_or, IfNone}
 use Rattle.std.proofs.lemmas.List.{get_or-map, map-set, replicate_more}
 use Rattle.std.proofs.lemmas.List.{map-append}

@@ -1,8 +1,8 @@
 -- The banks of a memory in order, as they go under locks and come back.
-use Rattle.std.proofs.Common.{◌≡◌, ◌≢◌, ℕ, zero, suc, ◌+◌, ◌<◌, ◌≤◌, if◌then◌else◌, List, [], ◌∷◌, ◌++◌, map, length, take, sym, refl, ap, ◌∙◌, subst, Option, None, Some, arith, eq-eqb, ne_eqb}
+use Rattle.std.proofs.Common.{◌≡◌, ℕ, zero, suc, ◌+◌, ◌<◌, ◌≤◌, if◌then◌else◌, List, [], ◌∷◌, ◌++◌, map, length, take, sym, refl, ap, ◌∙◌, subst, Option, None, Some, arith, eq-eqb, ne_eqb}
 use Rattle.std.specs.Prelude.{slice_index_or, reverse}
 use Rattle.std.specs.List.{All}
-use Rattle.std.proofs.lemmas.List.{get_or-take, get_or-map, get_or_append_left, get_or_push, length-append, length-map, length-reverse, length-take-le, length_push, reverse-append, take_all, take_more}
+use Rattle.std.proofs.lemmas.List.{get_or-take, get_or-map, get_or_append_left, get_or_push, length-map, length-reverse, length-take-le, length_push, reverse-append, take_all, take_more}
 use native.Mathlib.Decide.{ℕ_discrete}
 use Rattle.mem_lines.specs.Bank.{Bank}
 use Rattle.devices.specs.View.{DevicesView}

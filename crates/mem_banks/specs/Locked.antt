@@ -1,5 +1,5 @@
 -- What lies under the locks of the banks and of the devices.
-use Rattle.std.specs.Prelude.{◌≡◌, ℕ, ◌+◌, ◌<◌, ◌≤◌, List, length, slice_index_or, Option, Some}
+use Rattle.std.specs.Prelude.{ℕ, ◌<◌, List, length, slice_index_or, Option, Some}
 use Rattle.mem_lines.specs.Bank.{Bank}
 use Rattle.devices.specs.View.{DevicesView}
 use Rattle.access_record.specs.declared.entry.LogEntry.{LogEntry}

@@ -1,11 +1,9 @@
-use Rattle.std.proofs.Common.{rules, arith, ◌≡◌, ℕ, suc, ◌+◌, ◌-◌, ◌<◌, ◌≤◌, Some, List, length, take, sym, ap, ◌∙◌}
+use Rattle.std.proofs.Common.{rules, arith, ◌≡◌, ℕ, ◌+◌, ◌-◌, ◌<◌, ◌≤◌, Some, length, take, sym, ap, ◌∙◌}
 use Rattle.std.specs.Prelude.{slice_index_or, vec_len, reverse}
-use Rattle.access_record.specs.Passes.{PassOfBank}
-use Rattle.access_record.specs.Buses.{Run, ram_banks}
+use Rattle.access_record.specs.Buses.{ram_banks}
 use Rattle.mem_banks.specs.Slots.{bank_in}
 use Rattle.mem_banks.specs.End.{Unsettled, bank_passes, passes_in}
 use Rattle.mem_banks.specs.Memories.{unsettled_of}
-use Rattle.mem_banks.specs.Locked.{HasBanks}
 use Rattle.mem_banks.proofs.Locking.{length-passes, book_is, begins, devices_begin, locked_at, in_order-take}
 use Rattle.mem_banks.proofs.banks.Banks.renew.Goals as goal
 

@@ -1,4 +1,4 @@
-use Rattle.std.proofs.Common.{rules, arith, ◌≡◌, ◌+◌, ◌<◌, ◌≤◌, Some, length, map, set, ap, sym, ◌∙◌, subst}
+use Rattle.std.proofs.Common.{rules, arith, ◌≡◌, ◌+◌, ◌<◌, ◌≤◌, Some, length, set, ap, sym, ◌∙◌, subst}
 use Rattle.flex_base.specs.Banks.{IsAnswered}
 use Rattle.flex_base.specs.declared.event.What.TheVariants as what
 use Rattle.access_record.specs.Buses.{Run, ram_banks, place_in}

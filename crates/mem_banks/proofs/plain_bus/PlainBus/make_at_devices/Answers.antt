@@ -1,6 +1,6 @@
-use Rattle.std.proofs.Common.{rules, ◌≡◌, ◌<◌, length, map, set, ap, sym, ◌∙◌, subst}
+use Rattle.std.proofs.Common.{rules, ◌≡◌, ◌<◌, length, map, set, sym, ◌∙◌, subst}
 use Rattle.flex_base.specs.declared.event.What.TheVariants as what
-use Rattle.access_record.specs.Buses.{Run, ram_banks, place_in}
+use Rattle.access_record.specs.Buses.{place_in}
 use Rattle.access_record.specs.Histories.{history_after}
 use Rattle.mem_banks.specs.Slots.{done_in}
 use Rattle.mem_banks.specs.Origins.{run_from}

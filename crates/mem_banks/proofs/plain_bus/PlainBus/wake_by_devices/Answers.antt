@@ -3,7 +3,7 @@ use Rattle.std.specs.Prelude.{IfSome}
 use Rattle.std.proofs.lemmas.Option.{IfSome_then}
 use Rattle.flex_base.specs.declared.access.Access.TheVariants as acc
 use Rattle.flex_base.specs.declared.event.What.TheVariants as what
-use Rattle.access_record.specs.Buses.{Run, ram_banks, place_in}
+use Rattle.access_record.specs.Buses.{ram_banks}
 use Rattle.access_record.specs.Histories.{history_after}
 use Rattle.mem_banks.specs.Slots.{done_in}
 use Rattle.mem_banks.specs.Origins.{run_from}
