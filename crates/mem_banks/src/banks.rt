@@ -1,15 +1,19 @@
-ghost use Rattle.std.specs.Prelude.{◌≡◌, ◌≤◌, true, vec_len, vec_capacity, IfErr};
+ghost use Rattle.std.specs.Prelude.{◌≡◌, ◌≤◌, true, vec_len, vec_capacity, IfErr, Some};
 ghost use Rattle.std.specs.Sync.Mutex.{mutex_guard_value};
-ghost use Rattle.access_record.specs.Buses.{ram_banks};
+ghost use Rattle.flex_base.specs.Forms.{HasForm};
+ghost use Rattle.access_record.specs.Buses.{ram_banks, place_in, access_entry, Extends};
+ghost use Rattle.mem_banks.specs.Kept.{MayMake};
 ghost use Rattle.mem_banks.specs.End.{IsMemoryOf};
 ghost use Rattle.mem_banks.specs.Locked.{HasBanks};
 
 use crate::bank_cell::BankCell;
 use crate::device_cell::DeviceCell;
 use crate::end_memory::{EndMemory, Unsettled};
+use crate::places::ram_address;
 use crate::plain_bus::PlainBus;
 use crate::run_name::RunName;
-use access_record::{AccessRecord, BankPass};
+use access_record::{AccessRecord, BankPass, Pass};
+use flex_base::{Access, Engine, Reply};
 use mem_lines::Lines;
 use std::alloc::Global;
 use std::marker::PhantomData;
@@ -147,9 +151,39 @@ impl<N: RunName> Banks<N> {
         (memory, LockRoom { cells })
     }
 
+    // Makes an access under the lock of its bank, or under that of the devices, whether the hart's story
+    // asks it or not. It is told when the lock is held.
+    pub(crate) fn make<R: Wait, F: Fn(u8)>(
+        &self,
+        rt: &R,
+        pass: Pass,
+        engine: Engine,
+        acc: Access,
+        held: F,
+    ) -> (Pass, u64, Reply)
+        requires may { MayMake N.run pass acc }
+        requires held { F.IsAlwaysCallable held }
+        ensures noted { Extends pass result.0 (access_entry engine acc result.2) (Some (place_in N.run acc)) result.1 }
+        ensures form { HasForm acc result.2 }
+    {
+        match ram_address(&acc) {
+            Some(address) => {
+                let bank = (address / 64 % self.count as u64) as u8;
+                let mut cell = self.hold(rt, bank);
+                held(bank);
+                cell.access(&self.book, pass, engine, acc)
+            }
+            None => {
+                let mut cell = self.devices.lock(rt);
+                held(self.count);
+                cell.access(&self.book, pass, engine, acc)
+            }
+        }
+    }
+
     // Takes the lock of a bank. It is looked for at its own place first, and then from there on, round
     // and round.
-    pub(crate) fn hold<R: Wait>(&self, rt: &R, bank: u8) -> MutexGuard<'_, BankCell<N>>
+    fn hold<R: Wait>(&self, rt: &R, bank: u8) -> MutexGuard<'_, BankCell<N>>
         ensures { (mutex_guard_value result).lines.bank ≡ bank }
     {
         let mut place = bank as usize;

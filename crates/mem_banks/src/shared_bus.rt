@@ -1,5 +1,4 @@
 use crate::banks::Banks;
-use crate::places::ram_address;
 use crate::run_name::RunName;
 use access_record::{Bus, Entry, Pass};
 use flex_base::{Access, Engine, Gate, Point, Reply};
@@ -29,19 +28,9 @@ impl<'a, R: Wait, N: RunName, G: Gate> Bus for SharedBus<'a, R, N, G> {
 
     fn access(&mut self, pass: Pass, engine: Engine, acc: Access) -> (Pass, u64, Reply) {
         let hart = pass.hart();
-        let made = match ram_address(&acc) {
-            Some(address) => {
-                let bank = (address / 64 % self.banks.count as u64) as u8;
-                let mut cell = self.banks.hold(self.rt, bank);
-                self.gate.at(hart, engine, Point::Held(bank));
-                cell.access(&self.banks.book, pass, engine, acc)
-            }
-            None => {
-                let mut cell = self.banks.devices.lock(self.rt);
-                self.gate.at(hart, engine, Point::Held(self.banks.count));
-                cell.access(&self.banks.book, pass, engine, acc)
-            }
-        };
+        let made = self.banks.make(self.rt, pass, engine, acc, |bank| {
+            self.gate.at(hart, engine, Point::Held(bank))
+        });
         self.gate.at(hart, engine, Point::Noted(made.1));
         made
     }
