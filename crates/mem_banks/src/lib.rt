@@ -2,7 +2,9 @@
 //!
 //! RAM is dealt to the banks in lines of 64 bytes: the bank of an address is the address divided by
 //! 64, modulo the number of banks. What a bank holds is at every moment the replay of the bank's log,
-//! and so it is with the devices. `PlainBus` serves one thread and takes no lock.
+//! and so it is with the devices. `PlainBus` serves one thread and takes no lock. `Banks` has a lock
+//! round each bank and one round the devices, and each thread reaches them over a `SharedBus` of its
+//! own.
 #![tactic(auto)]
 
 mod at_bank;
