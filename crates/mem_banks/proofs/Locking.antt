@@ -167,10 +167,12 @@ module _ (run : Run) (lines : List Bank) (passes : List PassOfBank) (order : Are
           subst (λ (x : Option PassOfBank). AreDevicesAt run d x) (sym is) devices;
     }
 
-    pub memory_again : (memory : Memory) → memory ≡ record { lines = lines; devices = d; unsettled = Some (record { book = run.book; passes = reverse all_passes }) }
-        → IsMemoryOf run memory
-    memory_again memory is = memory-plain run lines d (map Some all_passes) memory plain
-        (is ∙ ap (λ (ps : List PassOfBank). record { lines = lines; devices = d; unsettled = Some (record { book = run.book; passes = ps }) }) (sym down))
+    pub memory_again : (book : RecordIdentity) (held reversed : List PassOfBank) → book ≡ run.book → held ≡ all_passes → reversed ≡ reverse held
+        → IsMemoryOf run (record { lines = lines; devices = d; unsettled = Some (record { book = book; passes = reversed }) })
+    memory_again book held reversed book_is held_is reversed_is =
+        let passes_are : reversed ≡ passes_down (map Some all_passes) (length (map Some all_passes)) = reversed_is ∙ ap reverse held_is ∙ sym down in
+        memory-plain run lines d (map Some all_passes) _ plain
+        (λ i. record { lines = lines; devices = d; unsettled = Some (record { book = book_is i; passes = passes_are i }) })
       where
         within : length all_passes ≤ length all_passes
         within = omega arith

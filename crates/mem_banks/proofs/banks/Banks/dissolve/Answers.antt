@@ -1,5 +1,4 @@
-use Rattle.std.proofs.Common.{rules, ◌≡◌, Some, [], ◌∷◌, ◌++◌, length, ap, ◌∙◌}
-use Rattle.std.specs.Prelude.{reverse}
+use Rattle.std.proofs.Common.{rules, ◌≡◌, Some, length}
 use Rattle.access_record.specs.Buses.{ram_banks}
 use Rattle.mem_banks.specs.Locked.{AreLockedDevices}
 use Rattle.mem_banks.proofs.Locking.{in_order-push, memory_again}
@@ -30,9 +29,7 @@ returns g c =
     let counted : length lines ≡ ram_banks run = search rules in
     let same : length passes ≡ length lines = search rules in
     let held : AreLockedDevices run d (Some p) = c.into_parts-devices.ensures.kept in
-    let book : c.args.self.book ≡ run.book = c.args.self.named in
-    let all : c.reverse-2.new.self.items ≡ reverse (passes ++ p ∷ []) = c.reverse-2.ensures.items ∙ ap reverse c.push_reserved-2.ensures.items in
     record {
-      memory = memory_again run lines passes c.loop-cell.invariant.0 d p c.args.self.run counted same held.kept _
-          (λ i. record { lines = lines; devices = d; unsettled = Some (record { book = book i; passes = all i }) });
+      memory = memory_again run lines passes c.loop-cell.invariant.0 d p c.args.self.run counted same held.kept
+          c.args.self.book c.push_reserved-2.new.self.items c.reverse-2.new.self.items c.args.self.named c.push_reserved-2.ensures.items c.reverse-2.ensures.items;
     }
