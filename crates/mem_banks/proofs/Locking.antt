@@ -12,7 +12,9 @@ use Rattle.access_record.specs.Buses.{Run, ram_banks}
 use Rattle.mem_banks.specs.Slots.{HasPass}
 use Rattle.mem_banks.specs.Kept.{IsRun, IsBankOf, IsBankAt, AreDevicesOf, AreDevicesAt}
 use Rattle.mem_banks.specs.Plain.{IsPlain, numbers_below}
-use Rattle.mem_banks.specs.End.{Unsettled, Memory, IsMemoryOf, bank_passes, pass_in, passes_down}
+use Rattle.mem_banks.specs.End.{Unsettled, Memory, IsMemoryOf, bank_passes, passes_in, pass_in, passes_down}
+use Rattle.mem_banks.specs.declared.end_memory.Unsettled as kept
+use Rattle.mem_banks.specs.Memories.{unsettled_of, memory_of}
 use Rattle.mem_banks.specs.Locked.{HasBanks, IsLockedBank, AreLockedDevices, AreInOrder}
 use Rattle.mem_banks.proofs.Ending.{memory-plain}
 
@@ -200,6 +202,13 @@ book_or other (Some u) = u.book
 
 pub book_is : (u w : Unsettled) → Some u ≡ Some w → u.book ≡ w.book
 book_is u w is = ap (book_or u.book) is
+
+-- its passes, turned round
+pub passes_turned : (lines : List Bank) (d : DevicesView) (unsettled : Option kept.Unsettled) (u : kept.Unsettled) (memory : Memory) (turned : List PassOfBank)
+    → memory_of lines d unsettled ≡ memory → unsettled ≡ Some u → turned ≡ reverse u.passes.items → turned ≡ reverse (bank_passes memory)
+passes_turned lines d unsettled u memory turned is held turned_is =
+    let same : bank_passes memory ≡ u.passes.items = ap bank_passes (sym is) ∙ ap (λ (x : Option kept.Unsettled). passes_in (unsettled_of x)) held in
+    turned_is ∙ ap reverse (sym same)
 
 -- its lines, and their passes without that of the devices
 pub record Begins (run : Run) (lines : List Bank) (all left : List PassOfBank) : Type 0 where

@@ -1,19 +1,18 @@
 use Rattle.std.proofs.Common.{rules, arith, ◌≡◌, ℕ, ◌+◌, ◌-◌, ◌<◌, ◌≤◌, Some, length, take, sym, ap, ◌∙◌}
-use Rattle.std.specs.Prelude.{slice_index_or, vec_len, reverse}
+use Rattle.std.specs.Prelude.{slice_index_or, vec_len}
 use Rattle.access_record.specs.Buses.{ram_banks}
 use Rattle.mem_banks.specs.Slots.{bank_in}
-use Rattle.mem_banks.specs.End.{Unsettled, bank_passes, passes_in}
+use Rattle.mem_banks.specs.End.{Unsettled, bank_passes}
 use Rattle.mem_banks.specs.Memories.{unsettled_of}
-use Rattle.mem_banks.proofs.Locking.{length-passes, book_is, begins, devices_begin, locked_at, in_order-take}
+use Rattle.mem_banks.proofs.Locking.{length-passes, book_is, passes_turned, begins, devices_begin, locked_at, in_order-take}
 use Rattle.mem_banks.proofs.banks.Banks.renew.Goals as goal
 
 pub unreachable-requires-in_default-pop : goal.unreachable-requires-in_default-pop
 unreachable-requires-in_default-pop g c =
     let run = g.N.RunName.run in
     let held : c.end.inside.unsettled ≡ Some c.in-Some.unsettled = search rules in
-    let passes : bank_passes c.args.end ≡ c.in-Some.unsettled.passes.items =
-    ap bank_passes (sym c.end.view_is) ∙ ap (λ u. passes_in (unsettled_of u)) held in
-    let all : c.reverse.new.self.items ≡ reverse (bank_passes c.args.end) = c.reverse.ensures.items ∙ ap reverse (sym passes) in
+    let all = passes_turned c.end.inside.lines.items c.end.inside.devices c.end.inside.unsettled c.in-Some.unsettled c.args.end c.reverse.new.self.items
+    c.end.view_is held c.reverse.ensures.items in
     let size : length c.reverse.new.self.items ≡ ram_banks run + 1 = ap length all ∙ length-passes run c.args.room.run.run_is c.args.end c.requires.memory in
     let none : vec_len c.reverse.new.self ≡ 0 = search rules in
     let len : vec_len c.reverse.new.self ≡ length c.reverse.new.self.items = search rules in
@@ -25,9 +24,8 @@ new-requires g c =
     let p = c.in-Some-pop.pass in
     let n = vec_len c.reverse.new.self - 1 in
     let held : c.end.inside.unsettled ≡ Some c.in-Some.unsettled = search rules in
-    let passes : bank_passes c.args.end ≡ c.in-Some.unsettled.passes.items =
-    ap bank_passes (sym c.end.view_is) ∙ ap (λ u. passes_in (unsettled_of u)) held in
-    let all : c.reverse.new.self.items ≡ reverse (bank_passes c.args.end) = c.reverse.ensures.items ∙ ap reverse (sym passes) in
+    let all = passes_turned c.end.inside.lines.items c.end.inside.devices c.end.inside.unsettled c.in-Some.unsettled c.args.end c.reverse.new.self.items
+    c.end.view_is held c.reverse.ensures.items in
     let some : 0 < vec_len c.reverse.new.self = search rules in
     let one : length c.reverse.new.self.items ≡ n + 1 = search rules in
     let here : slice_index_or c.reverse.new.self.items n p ≡ p = cc (c.pop.ensures.value p some, c.in-Some-pop.is) in
@@ -38,9 +36,8 @@ loop-bank-init g c =
     let run = g.N.RunName.run in
     let n = vec_len c.reverse.new.self - 1 in
     let held : c.end.inside.unsettled ≡ Some c.in-Some.unsettled = search rules in
-    let passes : bank_passes c.args.end ≡ c.in-Some.unsettled.passes.items =
-    ap bank_passes (sym c.end.view_is) ∙ ap (λ u. passes_in (unsettled_of u)) held in
-    let all : c.reverse.new.self.items ≡ reverse (bank_passes c.args.end) = c.reverse.ensures.items ∙ ap reverse (sym passes) in
+    let all = passes_turned c.end.inside.lines.items c.end.inside.devices c.end.inside.unsettled c.in-Some.unsettled c.args.end c.reverse.new.self.items
+    c.end.view_is held c.reverse.ensures.items in
     let some : 0 < vec_len c.reverse.new.self = search rules in
     let one : length c.reverse.new.self.items ≡ n + 1 = search rules in
     let first = begins run c.args.end c.end.inside.lines.items c.reverse.new.self.items c.pop.new.self.items n c.args.room.run c.requires.memory
@@ -99,9 +96,8 @@ invariant_of-result g c =
     let p = c.in-Some-pop.pass in
     let n = vec_len c.reverse.new.self - 1 in
     let held : c.end.inside.unsettled ≡ Some c.in-Some.unsettled = search rules in
-    let passes : bank_passes c.args.end ≡ c.in-Some.unsettled.passes.items =
-    ap bank_passes (sym c.end.view_is) ∙ ap (λ u. passes_in (unsettled_of u)) held in
-    let all : c.reverse.new.self.items ≡ reverse (bank_passes c.args.end) = c.reverse.ensures.items ∙ ap reverse (sym passes) in
+    let all = passes_turned c.end.inside.lines.items c.end.inside.devices c.end.inside.unsettled c.in-Some.unsettled c.args.end c.reverse.new.self.items
+    c.end.view_is held c.reverse.ensures.items in
     let some : 0 < vec_len c.reverse.new.self = search rules in
     let one : length c.reverse.new.self.items ≡ n + 1 = search rules in
     let here : slice_index_or c.reverse.new.self.items n p ≡ p = cc (c.pop.ensures.value p some, c.in-Some-pop.is) in
