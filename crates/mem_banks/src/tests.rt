@@ -8,6 +8,7 @@ ghost use Rattle.access_record.specs.Rule.{occurrences};
 ghost use Rattle.access_record.specs.Passes.{add_hart};
 ghost use Rattle.mem_banks.specs.Tried.{IsTried};
 
+mod sharing;
 mod threads;
 
 use super::*;
