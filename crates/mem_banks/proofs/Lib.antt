@@ -5,4 +5,5 @@ pub mod Plains
 pub mod Seen
 pub mod Histories
 pub mod Ending
+pub mod Locking
 pub mod Trying

@@ -45,9 +45,9 @@ tried_looked run old new waiting left bytes tried x = record {
 }
 
 -- one that was just enrolled
-pub tried_new : (run : Run) (hart : HartId) → hart.0 < run.setup.harts → 72 ≤ run.book.limits.room → run.setup.budget ≡ 2
-    → IsTried run (new_pass run.book.id hart) false 72 2
-tried_new run hart below room budget = record {
+pub tried_new : (run : Run) (hart : HartId) (left bytes : ℕ) → hart.0 < run.setup.harts → left ≤ run.book.limits.room → bytes ≤ run.setup.budget
+    → IsTried run (new_pass run.book.id hart) false left bytes
+tried_new run hart left bytes below room budget = record {
   book = refl;
   hart = below;
   room = omega (arith, room);

@@ -4,4 +4,6 @@ pub mod Origins
 pub mod Plain
 pub mod End
 pub mod Memories
+pub mod Runs
+pub mod Locked
 pub mod Tried

@@ -11,3 +11,10 @@ pub record IsTried (run : Run) (pass : PassOfHart) (waiting : Bool) (left bytes 
   pub places : NamePlaces run pass.log
   pub told : waits pass ≡ waiting
   pub sent : bytes_sent pass.log + bytes ≤ run.setup.budget
+
+-- a run of four harts, with room for a thousand accesses of each
+pub record IsSmall (run : Run) : Type 0 where
+  pub harts : run.setup.harts ≡ 4
+  pub ram : run.setup.ram ≡ 1048576
+  pub enrolled : run.book.limits.harts ≡ 4
+  pub room : 1000 ≤ run.book.limits.room

@@ -1,8 +1,9 @@
-ghost use Rattle.std.specs.Prelude.{◌≡◌, ◌+◌, ◌≤◌, ◌++◌, Some};
+ghost use Rattle.std.specs.Prelude.{◌≡◌, ◌+◌, ◌≤◌, [], ◌∷◌, ◌++◌, Some};
 ghost use Rattle.flex_base.specs.Forms.{HasForm};
 ghost use Rattle.flex_base.specs.Banks.{access_in, IsAnswered};
+ghost use Rattle.access_record.specs.Logs.{log_entry};
 ghost use Rattle.access_record.specs.Buses.{Run, ram_banks, access_entry, Extends};
-ghost use Rattle.mem_banks.specs.Slots.{done_in, seen_in};
+ghost use Rattle.mem_banks.specs.Slots.{log_in, done_in, seen_in};
 ghost use Rattle.mem_banks.specs.Kept.{IsBankAt, MakesAt};
 
 use crate::slots::note_at;
@@ -25,6 +26,7 @@ pub(crate) fn access_bank(
     ensures after { seen_in slot.new ≡ result.1 + 1 }
     ensures answered { (run : Run) → MakesAt run book.now lines.old slot.old pass acc
         → IsAnswered run.setup (ram_banks run) lines.old.bank (done_in slot.old) pass.hart.0 acc result.2 }
+    ensures log { log_in slot.new ≡ log_in slot.old ++ log_entry (access_entry engine acc result.2) pass.hart (Some lines.old.bank) result.1 ∷ [] }
     ensures done { done_in slot.new ≡ done_in slot.old ++ access_in pass.hart.0 (What.Acc acc result.2) }
     ensures form { HasForm acc result.2 }
     ensures kept { (run : Run) → MakesAt run book.now lines.old slot.old pass acc → IsBankAt run lines.old.bank lines.new slot.new }

@@ -14,6 +14,7 @@ ghost use Rattle.access_record.specs.Histories.{done_at, history_after, IsAnswer
 ghost use Rattle.mem_banks.specs.Kept.{IsReady, MayMake};
 ghost use Rattle.mem_banks.specs.Origins.{run_of};
 ghost use Rattle.mem_banks.specs.Plain.{numbers_below, new_slots, AreMade};
+ghost use Rattle.mem_banks.specs.Locked.{HasBanks};
 ghost use Rattle.mem_banks.specs.End.{logs_in, IsMemoryOf, IsFounderOf, AreHeld, passes_down};
 
 use crate::at_bank::access_bank;
@@ -303,9 +304,17 @@ impl PlainBus {
         self.devices.stop()
     }
 
+    // How many banks there are.
+    pub(crate) fn banks(&self) -> usize
+        ensures { result ≡ ram_banks self.now.run }
+    {
+        self.lines.len()
+    }
+
     /// Hands back the memory, with the record and the passes of its banks.
     pub fn dissolve(self) -> EndMemory
         ensures memory { IsMemoryOf self.run result }
+        ensures banks { HasBanks self.run }
         ensures history { (bank : ℕ) → bank < self.run.book.limits.banks
             → accesses_of (events_of (logs_in result bank)) ≡ done_at self.history bank }
     {

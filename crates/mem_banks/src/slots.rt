@@ -24,6 +24,7 @@ pub(crate) fn note_at(
         (log_in slot.old ++ log_entry entry pass.hart (Some (bank_in slot.old)) result.1 ∷ []) (result.1 + 1)) }
     ensures seen { (pass.seen ≤ result.1) × (seen_in slot.old ≤ result.1) }
     ensures after { result.0.seen ≡ result.1 + 1 }
+    ensures looks { (result.0.looks ≡ pass.looks) × (result.0.looked ≡ pass.looked) }
 {
     let Some(bank_pass) = slot.take() else {
         unreachable!()

@@ -8,6 +8,9 @@ ghost use Rattle.access_record.specs.Rule.{occurrences};
 ghost use Rattle.access_record.specs.Passes.{add_hart};
 ghost use Rattle.mem_banks.specs.Tried.{IsTried};
 
+mod sharing;
+mod threads;
+
 use super::*;
 use access_record::{Founder, Pass};
 use flex_base::{
@@ -209,14 +212,20 @@ fn play(bus: &mut PlainBus, hart: Tried, table: &[(Access, u64, u64)]) -> (Tried
     (hart, right)
 }
 
-// A hart that has done nothing yet.
-fn enrol(bus: &mut PlainBus, founder: Founder, hart: HartId) -> (Founder, Tried)
+// A hart that has done nothing yet, and may make so many accesses and send so many bytes.
+fn enrol(
+    bus: &mut PlainBus,
+    founder: Founder,
+    hart: HartId,
+    left: u64,
+    bytes: u64,
+) -> (Founder, Tried)
     requires founder { founder.id ≡ bus.old.run.book.id }
     requires in_range { hart.0 < bus.old.run.book.limits.harts }
     requires hart { hart.0 < bus.old.run.setup.harts }
     requires not_yet { occurrences hart.0 founder.harts ≡ 0 }
-    requires room { 72 ≤ bus.old.run.book.limits.room }
-    requires budget { bus.old.run.setup.budget ≡ 2 }
+    requires room { left ≤ bus.old.run.book.limits.room }
+    requires budget { bytes ≤ bus.old.run.setup.budget }
     ensures founder { result.0 ≡ add_hart founder hart }
     ensures hart { result.1.pass.hart ≡ hart }
     ensures tried { IsTried bus.new.run result.1.pass result.1.waiting result.1.left result.1.bytes }
@@ -226,8 +235,8 @@ fn enrol(bus: &mut PlainBus, founder: Founder, hart: HartId) -> (Founder, Tried)
     let hart = Tried {
         pass,
         waiting: false,
-        left: 72,
-        bytes: 2,
+        left,
+        bytes,
     };
     (founder, hart)
 }
@@ -358,8 +367,8 @@ fn banks_and_devices_answer(rt: HostRuntime) -> Result<(), Fail> {
         passes.destroy_empty();
         panic!(rt; "memory")
     };
-    let (founder, second) = enrol(&mut bus, founder, HartId(1));
-    let (founder, first) = enrol(&mut bus, founder, HartId(0));
+    let (founder, second) = enrol(&mut bus, founder, HartId(1), 72, 2);
+    let (founder, first) = enrol(&mut bus, founder, HartId(0), 72, 2);
     let (first, in_banks) = play(&mut bus, first, &IN_BANKS);
     let (second, of_other) = play(&mut bus, second, &OF_OTHER);
     let (first, of_devices) = play(&mut bus, first, &OF_DEVICES);
