@@ -1,9 +1,9 @@
 -- A run of a hart goes on by one event.
-use Rattle.std.proofs.Common.{◌≡◌, ◌⊎◌, ℕ, zero, suc, ◌-◌, ◌<◌, ◌≤◌, Bool, true, false, Option, inl, inr, refl, sym, ap, subst, ◌∙◌}
+use Rattle.std.proofs.Common.{◌≡◌, ℕ, zero, suc, ◌-◌, ◌<◌, Option, inl, refl, sym, subst, ◌∙◌}
 use Rattle.access_record.specs.Buses.{Run}
 use Rattle.access_record.specs.Histories.{History}
 use Rattle.context.specs.Contexts.{Context, IsOn, IsSame, Steps, Stays}
-use Rattle.context.specs.Runs.{Runs, MakesNone, HasAdvanced, HasStopped, HasRun}
+use Rattle.context.specs.Runs.{Runs, MakesNone, HasStopped, HasRun}
 
 pub same-trans : (c d e : Context) → IsSame c d → IsSame d e → IsSame c e
 same-trans c d e one two = record {

@@ -1,5 +1,5 @@
 -- A run of a hart in one engine.
-use Rattle.std.specs.Prelude.{◌≡◌, ◌⊎◌, ℕ, zero, suc, ◌-◌, ◌<◌, ◌≤◌, Bool, true, false, Option}
+use Rattle.std.specs.Prelude.{◌⊎◌, ℕ, zero, suc, ◌-◌, ◌<◌, ◌≤◌, Bool, true, false, Option}
 use Rattle.flex_base.specs.declared.engine.Engine.{Engine}
 use Rattle.access_record.specs.Buses.{Run}
 use Rattle.access_record.specs.Histories.{History}

@@ -1,5 +1,5 @@
 -- The run goes on by each event, and stops where it makes none.
-use Rattle.std.proofs.Common.{rules, Option, subst, ◌∙◌, ap, ◌-◌}
+use Rattle.std.proofs.Common.{rules, subst, ◌∙◌, ap, ◌-◌}
 use Rattle.access_record.specs.Buses.{Run}
 use Rattle.context.specs.Contexts.{IsOn, Steps}
 use Rattle.context.proofs.Running.{run_goes_on, has_run_so_far}

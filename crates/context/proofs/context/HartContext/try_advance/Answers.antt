@@ -1,5 +1,5 @@
 -- What another engine does, isn't made here.
-use Rattle.context.specs.Runs.{MakesNone, WantsElsewhere}
+use Rattle.context.specs.Runs.{WantsElsewhere}
 use Rattle.context.proofs.context.HartContext.try_advance.Goals as goal
 
 pub returns-in-Elsewhere-clause-advanced : goal.returns-in-Elsewhere-clause-advanced
