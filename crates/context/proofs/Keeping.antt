@@ -83,6 +83,11 @@ is_given run c context on =
       places = on.places;
     }
 
+-- a place more of it is taken
+one_place : (c : Context) (log : Log) (events : List Event) (setup : Setup) → IsContext c → IsRunOf c.entry c.settings setup
+    → log ≡ record { events = events; room = c.log.room - 1 } → log.room + 1 ≡ c.log.room
+one_place c log events setup context of grown = omega (arith, ap (λ (l : Log). l.room) grown, has_room c setup context of)
+
 -- some run that it may be of
 abbrev some_setup : Context → Setup
 some_setup c = record { image = record { entry = c.entry; parts = [] }; harts = c.settings.harts; ram = c.settings.ram; budget = c.settings.budget; input = [] }
@@ -378,10 +383,10 @@ makes_access c progress pass log access reply bank number setup layout context o
     (asked_told c pass log access reply bank number context gains awake)
 
 pub steps_access : (run : Run) (before after : Option History) (c : Context) (progress : Progress) (pass : PassOfHart) (log : Log) (access : Access) (reply : Reply)
-    (bank : Option ℕ) (number : ℕ) → IsRunOf c.entry c.settings run.setup → IsAsking c access → HasForm access reply
+    (bank : Option ℕ) (number : ℕ) → IsContext c → IsRunOf c.entry c.settings run.setup → IsAsking c access → HasForm access reply
     → Gains c pass log (what.Acc access reply) bank number → InHistory run before c.pass.hart.0 (what.Acc access reply) number after
     → Steps run before after c (next c c.hart progress pass log c.engine c.left)
-steps_access run before after c progress pass log access reply bank number of asking form gains history = record {
+steps_access run before after c progress pass log access reply bank number context of asking form gains history = record {
   happened = what.Acc access reply;
   adds = record { bank = bank; number = number; noted = gains.extends; history = history };
   may = (ap next_access (asking.asks run.setup of), form);
@@ -389,6 +394,7 @@ steps_access run before after c progress pass log access reply bank number of as
   plain = refl;
   engine = refl;
   left = omega arith;
+  room = one_place c log _ run.setup context of gains.grown;
 }
 
 pub steps_from : (run : Run) (before after : Option History) (c k d : Context) → c ≡ k → Steps run before after c d → Steps run before after k d
@@ -507,6 +513,7 @@ steps_end run before after c hart progress pass log left part bank number layout
       plain = refl;
       engine = refl;
       left = less;
+      room = one_place c log _ setup context of gains.grown;
     }
 
 -- A pulse of a parked hart.

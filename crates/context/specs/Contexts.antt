@@ -161,7 +161,7 @@ abbrev pub IsPlacedIn : Setup → What → Type 0
 IsPlacedIn setup (what.Acc access reply) = IsPlaced setup.harts setup.ram access
 IsPlacedIn setup other = Unit {0}
 
--- the next event of the hart's story was made; an end lowers the ends of the round by one
+-- the next event of the hart's story was made, in one place of the log; an end lowers the ends of the round by one
 pub record Steps (run : Run) (before after : Option History) (old new : Context) : Type 0 where
   pub happened : What
   pub adds : Adds run before after happened old new
@@ -170,6 +170,7 @@ pub record Steps (run : Run) (before after : Option History) (old new : Context)
   pub plain : is_handover happened ≡ false
   pub engine : new.engine ≡ old.engine
   pub left : new.left + ends_by happened ≡ old.left
+  pub room : new.log.room + 1 ≡ old.log.room
 
 -- it was handed over, nothing else happened, and it wants what it wanted
 pub record Moves (run : Run) (before after : Option History) (to : Engine) (old new : Context) : Type 0 where

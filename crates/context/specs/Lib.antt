@@ -3,3 +3,4 @@ pub mod Obeying
 pub mod Fewness
 pub mod Held
 pub mod Tried
+pub mod Runs

@@ -4,6 +4,7 @@
 
 mod context;
 mod held;
+mod run;
 mod wants;
 
 pub use context::HartContext;

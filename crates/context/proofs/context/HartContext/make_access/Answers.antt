@@ -72,7 +72,7 @@ returns-clause-one g c =
     let asking = subst Asking (sym c.self.view_is) c.requires.asks in
     let gains = gained _ _ _ _ _ _ _ c.access-number.ensures.noted c.hart.ensures c.push_access.ensures in
     steps_from _ _ _ _ _ _ c.self.view_is
-    (steps_access _ _ _ _ c.give.new.progress _ _ c.args.access c.access-number.result.1 _ _ of asking c.access-number.ensures.form gains c.access-number.ensures.history)
+    (steps_access _ _ _ _ c.give.new.progress _ _ c.args.access c.access-number.result.1 _ _ c.self.invariant of asking c.access-number.ensures.form gains c.access-number.ensures.history)
 
 pub returns-clause-on : goal.returns-clause-on
 returns-clause-on g c =
