@@ -106,9 +106,8 @@ fn one<B: Bus>(context: HartContext, bus: &mut B) -> (HartContext, Standing)
     ensures bus { B.run bus.new ≡ B.run bus.old }
 {
     let mut context = context;
-    let wanted = context.wanted_engine();
-    let is_event = matches!(context.wants(), Wants::Ask(_) | Wants::Finish(_));
-    if is_event && wanted == Engine::Kernel && context.engine() == Engine::Kernel {
+    let may = context.engine() == Engine::Kernel && 0 < context.round_left();
+    if may && context.wants_here().is_some() {
         context = Kernel::one(context, bus);
     }
     let stands = standing(&context);
@@ -132,9 +131,9 @@ fn a_run_stops_where_it_must(rt: HostRuntime) -> Result<(), Fail> {
         passes.destroy_empty();
         panic!(rt; "memory")
     };
-    let (founder, waits) = begin(&mut bus, founder, &image, HartId(0), waits, plan);
-    let (founder, stores) = begin(&mut bus, founder, &image, HartId(1), stores, plan);
     let (founder, jumps) = begin(&mut bus, founder, &image, HartId(2), jumps, plan);
+    let (founder, stores) = begin(&mut bus, founder, &image, HartId(1), stores, plan);
+    let (founder, waits) = begin(&mut bus, founder, &image, HartId(0), waits, plan);
     let (jumps, fetched) = one(jumps, &mut bus);
     let (waits, parked) = run(waits, &mut bus);
     let (stores, at_device) = run(stores, &mut bus);
