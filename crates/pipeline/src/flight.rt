@@ -7,7 +7,9 @@ use flex_base::Class;
 
 // The latches in which events are made.
 pub(crate) const FETCH: u8 = 1;
+
 pub(crate) const MEMORY: u8 = 4;
+
 pub(crate) const END: u8 = 5;
 
 /// An instruction in flight: the place of its hart among those that are held, and the latch in which

@@ -61,6 +61,7 @@ fn begin(
 type Row = ([Option<u8>; 6], u64);
 
 const FIRST: Option<u8> = Some(0);
+
 const OTHER: Option<u8> = Some(1);
 
 const ROWS: [Row; 12] = [
