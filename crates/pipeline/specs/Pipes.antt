@@ -1,14 +1,16 @@
 -- What contracts see of a pipe.
-use Rattle.std.specs.Prelude.{◌≡◌, ◌≢◌, ◌⊎◌, ℕ, zero, suc, ◌+◌, ◌-◌, ◌<◌, ◌≤◌, Bool, true, false, if◌then◌else◌, nat_lt, min, List, [], ◌∷◌, ◌++◌, map, take, reverse, length, slice_index_or, slice_set, Option, None, Some}
+use Rattle.std.specs.Prelude.{◌≡◌, ◌≢◌, ◌⊎◌, ⊥, ℕ, zero, suc, ◌+◌, ◌-◌, ◌<◌, ◌≤◌, Bool, true, false, if◌then◌else◌, nat_lt, nat_le, nat_eq, min, List, [], ◌∷◌, ◌++◌, map, take, reverse, length, slice_index_or, slice_set, Option, None, Some}
+use Rattle.std.specs.List.{All}
 use Rattle.flex_base.specs.declared.class.Class.{Class}
 use Rattle.flex_base.specs.declared.class.Class.TheVariants as class
+use Rattle.flex_base.specs.declared.engine.Engine.{Engine}
 use Rattle.flex_base.specs.declared.engine.Engine.TheVariants as engine
 use Rattle.access_record.specs.Buses.{Run}
 use Rattle.access_record.specs.Histories.{History}
 use Rattle.context.specs.declared.wants.Wants.{Wants}
 use Rattle.context.specs.declared.wants.Wants.TheVariants as wants
 use Rattle.context.specs.Obeying.{IsFor}
-use Rattle.context.specs.Contexts.{Context, plan_of, IsWanting, IsWantedIn, IsOn, IsSame, Steps}
+use Rattle.context.specs.Contexts.{Context, plan_of, IsWanting, IsWantedIn, IsOn, IsSame, IsElsewhere, Steps}
 use Rattle.pipeline.specs.declared.flight.Flight.{Flight}
 
 -- the latches by their numbers, from select, which is 0, to end
@@ -27,18 +29,20 @@ pub record IsDue (c : Context) (latch : ℕ) : Type 0 where
   pub here : IsFor (plan_of c) wants c.engine
   pub latch_is : latch_for wants ≡ latch
 
--- the harts that are held, in the order in which they were admitted, what is in the latches, the events of the last cycle, and
--- after how many cycles more than the next one an event is made at the latest, where some hart has one due
+-- the harts that are held, in the order in which they were admitted, what is in the latches, and the events of the last cycle
 pub record Pipe : Type 0 where
   pub held : List Context
-  pub latches : List (Option ℕ)
+  pub latches : List (Option Flight)
   pub made : ℕ
-  pub wait : ℕ
 
 -- the hart of what is in a latch
 abbrev pub place_in : Option Flight → Option ℕ
 place_in (Some f) = Some f.place
 place_in None = None
+
+abbrev pub is_of : Option Flight → ℕ → Bool
+is_of (Some f) place = nat_eq f.place place
+is_of None place = false
 
 -- so many cycles more than the next one until the instruction in this latch makes its event
 abbrev pub wait_at : ℕ → Option Flight → ℕ
@@ -50,8 +54,27 @@ abbrev pub least_wait : ℕ → List (Option Flight) → ℕ
 least_wait latch [] = 5
 least_wait latch (f ∷ rest) = min (wait_at latch f) (least_wait (suc latch) rest)
 
+-- after how many cycles more than the next one an event is made at the latest, where some hart has one due
+abbrev pub wait_of : Pipe → ℕ
+wait_of pipe = least_wait 0 pipe.latches
+
 abbrev pub pipe_of : List Context → List (Option Flight) → ℕ → Pipe
-pipe_of held latches made = record { held = held; latches = map place_in latches; made = made; wait = least_wait 0 latches }
+pipe_of held latches made = record { held = held; latches = latches; made = made }
+
+-- each latch's content goes to the next one; what was in end has left
+abbrev pub moved : List (Option Flight) → List (Option Flight)
+moved latches = None ∷ take 5 latches
+
+-- what is in a latch once the hart at this place is taken out, and those after it have moved up
+abbrev pub without_place : ℕ → Option Flight → Option Flight
+without_place place None = None
+without_place place (Some f) =
+    if nat_eq f.place place then None else if nat_lt f.place place then Some f else Some (record f { place = f.place - 1 })
+
+-- what is left in a latch after the event that was made in it: the instruction, where its next event is made in a later one
+abbrev pub flight_after : ℕ → ℕ → Option ℕ → Option Flight
+flight_after place latch None = None
+flight_after place latch (Some due) = if nat_le due latch then None else Some (record { place = place; due = due })
 
 -- the hart at this place
 abbrev pub HasHart : List Context → ℕ → (Context → Type 0) → Type 0
@@ -78,12 +101,13 @@ AreOnce [] = Unit {0}
 AreOnce (place ∷ rest) = IsNotAmong place rest × AreOnce rest
 
 -- what the type of a pipe keeps
-pub record IsPipe (held : List Context) (latches : List (Option Flight)) : Type 0 where
+pub record IsPipe (held : List Context) (latches : List (Option Flight)) (capacity : ℕ) : Type 0 where
   pub few : length held ≤ 32
   pub six : length latches ≡ 6
   pub here : (place : ℕ) (c : Context) → place < length held → (slice_index_or held place c).engine ≡ engine.Pipe
   pub flights : AreInFlight held 0 latches
   pub once : AreOnce (map place_in latches)
+  pub room : capacity ≡ 32
 
 -- harts of these places made at most one event each, one place after another, so many in all
 abbrev pub Passes : Run → Option History → Option History → ℕ → List (Option ℕ) → List Context → List Context → Type 0
@@ -97,9 +121,36 @@ Passes run before after made (Some place ∷ rest) old new =
 
 -- the places of what is in the latches after each has moved on by one, from end to fetch
 abbrev pub moved_places : Pipe → List (Option ℕ)
-moved_places pipe = reverse (take 5 pipe.latches)
+moved_places pipe = reverse (map place_in (take 5 pipe.latches))
 
 -- an event was made or comes nearer, where some hart has one due
 abbrev pub IsNearer : Pipe → Pipe → Type 0
 IsNearer old new = (place : ℕ) (c : Context) → place < length old.held → slice_index_or old.held place c ≡ c → IsWantedIn c engine.Pipe
-    → (0 < new.made) ⊎ (new.wait < old.wait)
+    → (0 < new.made) ⊎ (wait_of new < wait_of old)
+
+-- a hart that was held isn't any more, and all others are as before, in their order
+pub record IsOut (old new : Pipe) (c : Context) : Type 0 where
+  pub before : List Context
+  pub after : List Context
+  pub was : old.held ≡ before ++ c ∷ after
+  pub left : new.held ≡ before ++ after
+  pub made : new.made ≡ old.made
+
+-- each hart that is held is of this run
+abbrev pub AreOn : Run → List Context → Type 0
+AreOn run held = All (λ c. IsOn run c) held
+
+-- none of them wants another engine
+abbrev pub NoneElsewhere : List Context → Type 0
+NoneElsewhere held = All (λ c. (to : Engine) → IsElsewhere to c → ⊥) held
+
+-- what the cycle makes of one latch: the event that is due there, or nothing. The instruction stays in the latch where its next
+-- event is made in a later one, and in end
+pub record Works (run : Run) (before after : Option History) (latch : ℕ) (flight : Flight) (old new : List Context) : Type 0 where
+  pub was : Context
+  pub next : Context
+  pub there : flight.place < length old
+  pub was_is : slice_index_or old flight.place was ≡ was
+  pub steps : Steps run before after was next
+  pub same : IsSame was next
+  pub held : new ≡ slice_set old flight.place next

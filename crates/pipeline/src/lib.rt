@@ -9,6 +9,7 @@
 mod flight;
 mod pipeline;
 
+pub use flight::Flight;
 pub use pipeline::Pipeline;
 
 #[cfg(test)]

@@ -1,7 +1,14 @@
-use crate::flight::{END, FETCH, Flight, MEMORY, due_latch, is_elsewhere, without};
+ghost use Rattle.std.specs.Prelude.{◌≡◌, ◌<◌, ◌+◌, [], ◌∷◌, ◌++◌, length, map, None, IfOk, IfSome, IfNone, MatchOption, ⊥, ℕ};
+ghost use Rattle.flex_base.specs.declared.engine.Engine.{Engine};
+ghost use Rattle.flex_base.specs.declared.engine.Engine.TheVariants as engine;
+ghost use Rattle.context.specs.Contexts.{Context, IsOn, IsElsewhere};
+ghost use Rattle.pipeline.specs.Pipes.{Passes, moved_places, IsNearer, IsOut, AreOn, NoneElsewhere, AreOnce, moved, is_of, place_in};
+
+use crate::flight::{END, FETCH, Flight, MEMORY, due_latch, goes_on, other_engine, without};
 use access_record::Bus;
 use context::HartContext;
 use std::alloc::{AllocError, Global};
+use std::marker::Model;
 
 // So many harts are held at most.
 const MOST_HELD: usize = 32;
@@ -18,9 +25,23 @@ pub struct Pipeline {
     made: u64,
 }
 
+impl Model for Pipeline {
+    ghost use Rattle.std.specs.Prelude.{vec_capacity};
+    ghost use Rattle.pipeline.specs.Pipes.{Pipe, pipe_of, IsPipe};
+
+    ghost Value = { Pipe };
+
+    ghost view = { λ p. pipe_of p.held.items p.latches p.made };
+
+    ghost invariant = { λ p. IsPipe p.held.items p.latches (vec_capacity p.held) };
+}
+
 impl Pipeline {
     /// A pipe that holds no hart.
-    pub fn new(alloc: Global) -> Result<Pipeline, AllocError> {
+    pub fn new(alloc: Global) -> Result<Pipeline, AllocError>
+        ensures empty { IfOk result (λ p. p.held ≡ []) }
+        ensures made { IfOk result (λ p. p.made ≡ 0) }
+    {
         Ok(Pipeline {
             held: Vec::with_capacity(alloc, MOST_HELD)?,
             latches: [None; 6],
@@ -34,12 +55,20 @@ impl Pipeline {
     /// The hart is in the pipe, and fewer than 32 are held. One that comes back in the middle of an
     /// instruction goes on where the instruction is: it is laid into the latch before the one in which
     /// its next event is made, if that latch is free.
-    pub fn admit(&mut self, ctx: HartContext) {
+    pub fn admit(&mut self, ctx: HartContext)
+        requires here { ctx.engine ≡ engine.Pipe }
+        requires room { length self.old.held < 32 }
+        ensures held { self.new.held ≡ self.old.held ++ ctx ∷ [] }
+        ensures made { self.new.made ≡ self.old.made }
+    {
         let place = self.count();
         let due = due_latch(&ctx);
         self.held.push_reserved(ctx);
         if let Some(due) = due {
-            self.lay(Flight { place, due });
+            let before = usize::from(due - 1);
+            if self.latches[before].is_none() {
+                self.latches[before] = Some(Flight { place, due });
+            }
         }
     }
 
@@ -47,19 +76,33 @@ impl Pipeline {
     ///
     /// A hart makes one event at most. Its instruction leaves the latches after its last event, and
     /// where what comes next isn't the pipe's.
-    pub fn cycle<B: Bus>(&mut self, bus: &mut B) {
-        self.move_on();
-        let end = self.work(END, bus);
-        let memory = self.work(MEMORY, bus);
-        let fetch = self.work(FETCH, bus);
+    pub fn cycle<B: Bus>(&mut self, bus: &mut B)
+        requires on { AreOn (B.run bus.old) self.old.held }
+        ensures passes { Passes (B.run bus.old) (B.history bus.old) (B.history bus.new) self.new.made (moved_places self.old) self.old.held self.new.held }
+        ensures nearer { IsNearer self.old self.new }
+        ensures on { AreOn (B.run bus.old) self.new.held }
+        ensures bus { B.run bus.new ≡ B.run bus.old }
+    {
+        self.latches = moved(self.latches);
+        let end = work(&mut self.held, &mut self.latches, END, bus);
+        let memory = work(&mut self.held, &mut self.latches, MEMORY, bus);
+        let fetch = work(&mut self.held, &mut self.latches, FETCH, bus);
         self.made = end + memory + fetch;
-        self.select();
+        if let Some(flight) = select(&self.held, &self.latches, self.next) {
+            self.latches[0] = Some(flight);
+            self.next = usize::from(flight.place) + 1;
+        }
     }
 
     /// Takes out the first hart that wants another engine.
-    pub fn leave(&mut self) -> Option<HartContext> {
+    pub fn leave(&mut self) -> Option<HartContext>
+        ensures out { IfSome result (λ c. IsOut self.old self.new c) }
+        ensures elsewhere { IfSome result (λ c. (to : Engine) × IsElsewhere to c) }
+        ensures none { IfNone result (NoneElsewhere self.old.held) }
+        ensures stays { IfNone result (self.new ≡ self.old) }
+    {
         for place in 0..self.held.len() {
-            if is_elsewhere(&self.held[place]) {
+            if other_engine(&self.held[place]).is_some() {
                 return Some(self.take_out(place));
             }
         }
@@ -67,7 +110,12 @@ impl Pipeline {
     }
 
     /// Takes out the hart that was admitted last.
-    pub fn drain_one(&mut self) -> Option<HartContext> {
+    pub fn drain_one(&mut self) -> Option<HartContext>
+        ensures out { IfSome result (λ c. self.old.held ≡ self.new.held ++ c ∷ []) }
+        ensures none { IfNone result (self.old.held ≡ []) }
+        ensures stays { IfNone result (self.new ≡ self.old) }
+        ensures made { self.new.made ≡ self.old.made }
+    {
         let count = self.held.len();
         if count == 0 {
             return None;
@@ -76,31 +124,31 @@ impl Pipeline {
     }
 
     /// How many harts are held.
-    pub fn count(&self) -> u8 {
+    pub fn count(&self) -> u8
+        ensures { result ≡ length self.now.held }
+    {
         self.held.len() as u8
     }
 
     /// How many events were made in the last cycle, 0 before the first.
-    pub fn made(&self) -> u64 {
+    pub fn made(&self) -> u64
+        ensures { result ≡ self.now.made }
+    {
         self.made
     }
 
-    /// What is in the latches, from select to end: the places of the harts, of which the first that
-    /// was admitted has place 0.
-    pub fn latches(&self) -> [Option<u8>; 6] {
-        let [select, fetch, decode, execute, memory, end] = self.latches;
-        [
-            place_of(select),
-            place_of(fetch),
-            place_of(decode),
-            place_of(execute),
-            place_of(memory),
-            place_of(end),
-        ]
+    /// What is in the latches, from select to end.
+    pub fn latches(&self) -> [Option<Flight>; 6]
+        ensures latches { result ≡ self.now.latches }
+        ensures once { AreOnce (map place_in result) }
+    {
+        self.latches
     }
 
     /// Ends a pipe that holds no hart.
-    pub fn discard(self) {
+    pub fn discard(self)
+        requires none { self.held ≡ [] }
+    {
         let Pipeline {
             held,
             latches: _,
@@ -108,67 +156,6 @@ impl Pipeline {
             made: _,
         } = self;
         held.destroy_empty();
-    }
-
-    // Lays an instruction into the latch before the one of its next event, if that is free.
-    fn lay(&mut self, flight: Flight) {
-        let before = usize::from(flight.due - 1);
-        if self.latches[before].is_none() {
-            self.latches[before] = Some(flight);
-        }
-    }
-
-    // Each latch's content goes to the next latch. What was in end has left.
-    fn move_on(&mut self) {
-        let [select, fetch, decode, execute, memory, _] = self.latches;
-        self.latches = [None, select, fetch, decode, execute, memory];
-    }
-
-    // Makes the event that is due in a latch, and answers how many that is.
-    fn work<B: Bus>(&mut self, latch: u8, bus: &mut B) -> u64 {
-        let Some(flight) = self.latches[usize::from(latch)] else {
-            return 0;
-        };
-        if flight.due != latch {
-            return 0;
-        }
-        let context = &mut self.held[usize::from(flight.place)];
-        context.advance(bus);
-        if latch < END {
-            let due = due_latch(&self.held[usize::from(flight.place)]);
-            self.latches[usize::from(latch)] = goes_on(flight.place, latch, due);
-        }
-        1
-    }
-
-    // Starts the instruction of the next hart that isn't in flight and wants an event here.
-    fn select(&mut self) {
-        let count = self.held.len();
-        let found = match self.find(self.next, count) {
-            Some(flight) => Some(flight),
-            None => self.find(0, self.next.min(count)),
-        };
-        if let Some(flight) = found {
-            self.latches[0] = Some(flight);
-            self.next = usize::from(flight.place) + 1;
-        }
-    }
-
-    // The first hart among these places that isn't in flight and wants an event here.
-    fn find(&self, from: usize, to: usize) -> Option<Flight> {
-        for place in from..to {
-            let place = place as u8;
-            if !self.is_in_flight(place) {
-                if let Some(due) = due_latch(&self.held[usize::from(place)]) {
-                    return Some(Flight { place, due });
-                }
-            }
-        }
-        None
-    }
-
-    fn is_in_flight(&self, place: u8) -> bool {
-        self.latches().contains(&Some(place))
     }
 
     // Takes a hart out, and its instruction out of the latches.
@@ -188,19 +175,80 @@ impl Pipeline {
     }
 }
 
-// The hart of an instruction in flight.
-fn place_of(latch: Option<Flight>) -> Option<u8> {
-    match latch {
-        Some(flight) => Some(flight.place),
-        None => None,
+// Each latch's content goes to the next latch. What was in end has left.
+fn moved(latches: [Option<Flight>; 6]) -> [Option<Flight>; 6]
+    ensures moved { result ≡ moved latches }
+{
+    let [select, fetch, decode, execute, memory, _] = latches;
+    [None, select, fetch, decode, execute, memory]
+}
+
+// Makes the event that is due in a latch, and answers how many that is.
+fn work<B: Bus>(
+    held: &mut Vec<HartContext>,
+    latches: &mut [Option<Flight>; 6],
+    latch: u8,
+    bus: &mut B,
+) -> u64 {
+    let Some(flight) = latches[usize::from(latch)] else {
+        return 0;
+    };
+    if flight.due != latch {
+        return 0;
+    }
+    held[usize::from(flight.place)].advance(bus);
+    if latch < END {
+        let due = due_latch(&held[usize::from(flight.place)]);
+        latches[usize::from(latch)] = goes_on(flight.place, latch, due);
+    }
+    1
+}
+
+// The next hart that isn't in flight and wants an event here, from this place on and round.
+fn select(held: &[HartContext], latches: &[Option<Flight>; 6], next: usize) -> Option<Flight> {
+    let next = next.min(held.len());
+    match first_due(held, latches, next, held.len()) {
+        Some(flight) => Some(flight),
+        None => first_due(held, latches, 0, next),
     }
 }
 
-// After an event in a latch the instruction goes on where its next event is made in a later one.
-fn goes_on(place: u8, latch: u8, due: Option<u8>) -> Option<Flight> {
-    match due {
-        Some(due) if latch < due => Some(Flight { place, due }),
-        Some(_) => None,
-        None => None,
+// The first hart among these places that isn't in flight and wants an event here.
+fn first_due(
+    held: &[HartContext],
+    latches: &[Option<Flight>; 6],
+    from: usize,
+    to: usize,
+) -> Option<Flight> {
+    for place in from..to {
+        if !is_in_flight(latches, place) {
+            if let Some(due) = due_latch(&held[place]) {
+                return Some(Flight {
+                    place: place as u8,
+                    due,
+                });
+            }
+        }
+    }
+    None
+}
+
+// Whether an instruction of the hart at this place is in flight.
+fn is_in_flight(latches: &[Option<Flight>; 6], place: usize) -> bool {
+    let [select, fetch, decode, execute, memory, end] = *latches;
+    is_of(select, place)
+        || is_of(fetch, place)
+        || is_of(decode, place)
+        || is_of(execute, place)
+        || is_of(memory, place)
+        || is_of(end, place)
+}
+
+fn is_of(latch: Option<Flight>, place: usize) -> bool
+    ensures { result ≡ is_of latch place }
+{
+    match latch {
+        Some(flight) => usize::from(flight.place) == place,
+        None => false,
     }
 }
