@@ -1,5 +1,5 @@
 -- What contracts see of a pipe.
-use Rattle.std.specs.Prelude.{◌≡◌, ◌≢◌, ◌⊎◌, ⊥, ℕ, zero, suc, ◌+◌, ◌-◌, ◌<◌, ◌≤◌, Bool, true, false, if◌then◌else◌, nat_lt, nat_le, nat_eq, min, List, [], ◌∷◌, ◌++◌, map, take, reverse, length, slice_index_or, slice_set, Option, None, Some}
+use Rattle.std.specs.Prelude.{◌≡◌, ◌≢◌, ◌⊎◌, ℕ, zero, suc, ◌+◌, ◌-◌, ◌<◌, ◌≤◌, Bool, true, false, ◌||◌, if◌then◌else◌, nat_lt, nat_le, nat_eq, min, List, [], ◌∷◌, ◌++◌, map, take, reverse, length, slice_index_or, slice_set, Option, None, Some}
 use Rattle.std.specs.List.{All}
 use Rattle.flex_base.specs.declared.class.Class.{Class}
 use Rattle.flex_base.specs.declared.class.Class.TheVariants as class
@@ -10,6 +10,7 @@ use Rattle.access_record.specs.Histories.{History}
 use Rattle.context.specs.declared.wants.Wants.{Wants}
 use Rattle.context.specs.declared.wants.Wants.TheVariants as wants
 use Rattle.context.specs.Obeying.{IsFor}
+use Rattle.context.specs.Runs.{MakesNone}
 use Rattle.context.specs.Contexts.{Context, plan_of, IsWanting, IsWantedIn, IsOn, IsSame, IsElsewhere, Steps}
 use Rattle.pipeline.specs.declared.flight.Flight.{Flight}
 
@@ -43,6 +44,10 @@ place_in None = None
 abbrev pub is_of : Option Flight → ℕ → Bool
 is_of (Some f) place = nat_eq f.place place
 is_of None place = false
+
+abbrev pub is_among : List (Option Flight) → ℕ → Bool
+is_among [] place = false
+is_among (f ∷ rest) place = is_of f place || is_among rest place
 
 -- so many cycles more than the next one until the instruction in this latch makes its event
 abbrev pub wait_at : ℕ → Option Flight → ℕ
@@ -100,11 +105,15 @@ abbrev pub AreOnce : List (Option ℕ) → Type 0
 AreOnce [] = Unit {0}
 AreOnce (place ∷ rest) = IsNotAmong place rest × AreOnce rest
 
+-- each hart that is held is in the pipe
+abbrev pub AreHere : List Context → Type 0
+AreHere held = All (λ c. c.engine ≡ engine.Pipe) held
+
 -- what the type of a pipe keeps
 pub record IsPipe (held : List Context) (latches : List (Option Flight)) (capacity : ℕ) : Type 0 where
   pub few : length held ≤ 32
   pub six : length latches ≡ 6
-  pub here : (place : ℕ) (c : Context) → place < length held → (slice_index_or held place c).engine ≡ engine.Pipe
+  pub here : AreHere held
   pub flights : AreInFlight held 0 latches
   pub once : AreOnce (map place_in latches)
   pub room : capacity ≡ 32
@@ -144,13 +153,37 @@ AreOn run held = All (λ c. IsOn run c) held
 abbrev pub NoneElsewhere : List Context → Type 0
 NoneElsewhere held = All (λ c. (to : Engine) → IsElsewhere to c → ⊥) held
 
--- what the cycle makes of one latch: the event that is due there, or nothing. The instruction stays in the latch where its next
--- event is made in a later one, and in end
-pub record Works (run : Run) (before after : Option History) (latch : ℕ) (flight : Flight) (old new : List Context) : Type 0 where
+-- the instruction in this latch may make its event there: its hart is held, and has the event due where it says so
+abbrev pub MayWork : List Context → ℕ → Option Flight → Type 0
+MayWork held latch None = Unit {0}
+MayWork held latch (Some f) = (f.place < length held) × (f.due ≡ latch → HasHart held f.place (λ c. IsDue c latch))
+
+-- one event, of the hart of this instruction
+pub record Works (run : Run) (before after : Option History) (f : Flight) (old new : List Context) : Type 0 where
   pub was : Context
   pub next : Context
-  pub there : flight.place < length old
-  pub was_is : slice_index_or old flight.place was ≡ was
+  pub there : f.place < length old
+  pub was_is : slice_index_or old f.place was ≡ was
   pub steps : Steps run before after was next
   pub same : IsSame was next
-  pub held : new ≡ slice_set old flight.place next
+  pub held : new ≡ slice_set old f.place next
+
+-- how many events are made in this latch
+abbrev pub due_here : ℕ → Option Flight → ℕ
+due_here latch None = 0
+due_here latch (Some f) = if nat_eq f.due latch then 1 else 0
+
+-- what is made in this latch: the event that is due, or nothing
+abbrev pub HasWorked : Run → Option History → Option History → ℕ → Option Flight → List Context → List Context → Type 0
+HasWorked run before after zero f old new = (new ≡ old) × (after ≡ before)
+HasWorked run before after (suc n) None old new = ⊥
+HasWorked run before after (suc n) (Some f) old new = Works run before after f old new
+
+-- this hart has an event of its engine due, and isn't in flight
+abbrev pub MayStart : List Context → List (Option Flight) → Flight → Type 0
+MayStart held latches f = (is_among latches f.place ≡ false) × HasHart held f.place (λ c. IsDue c f.due)
+
+-- none of these harts may start
+abbrev pub NoneMayStart : List Context → List (Option Flight) → ℕ → ℕ → Type 0
+NoneMayStart held latches from to = (place : ℕ) (c : Context) → from ≤ place → place < to → is_among latches place ≡ false
+    → slice_index_or held place c ≡ c → MakesNone c

@@ -1,7 +1,7 @@
-ghost use Rattle.std.specs.Prelude.{◌≡◌, ◌≤◌, MatchOption, ⊥, ℕ};
+ghost use Rattle.std.specs.Prelude.{◌≡◌, ◌≤◌, MatchOption, ℕ};
 ghost use Rattle.context.specs.Contexts.{IsElsewhere};
 ghost use Rattle.context.specs.Runs.{MakesNone};
-ghost use Rattle.pipeline.specs.Pipes.{IsDue, without_place, flight_after};
+ghost use Rattle.pipeline.specs.Pipes.{IsDue, latch_for, without_place, flight_after};
 
 use context::{HartContext, Wants};
 use flex_base::{Class, Engine};

@@ -1,8 +1,8 @@
-ghost use Rattle.std.specs.Prelude.{◌≡◌, ◌<◌, ◌+◌, [], ◌∷◌, ◌++◌, length, map, None, IfOk, IfSome, IfNone, MatchOption, ⊥, ℕ};
+ghost use Rattle.std.specs.Prelude.{◌≡◌, ◌<◌, ◌≤◌, ◌+◌, [], ◌∷◌, ◌++◌, length, map, slice_index_or, None, IfOk, IfSome, IfNone};
 ghost use Rattle.flex_base.specs.declared.engine.Engine.{Engine};
 ghost use Rattle.flex_base.specs.declared.engine.Engine.TheVariants as engine;
-ghost use Rattle.context.specs.Contexts.{Context, IsOn, IsElsewhere};
-ghost use Rattle.pipeline.specs.Pipes.{Passes, moved_places, IsNearer, IsOut, AreOn, NoneElsewhere, AreOnce, moved, is_of, place_in};
+ghost use Rattle.context.specs.Contexts.{IsElsewhere};
+ghost use Rattle.pipeline.specs.Pipes.{Passes, moved_places, IsNearer, IsOut, AreOn, AreHere, NoneElsewhere, AreOnce, moved, is_of, is_among, place_in, MayWork, HasWorked, due_here, MayStart, NoneMayStart};
 
 use crate::flight::{END, FETCH, Flight, MEMORY, due_latch, goes_on, other_engine, without};
 use access_record::Bus;
@@ -189,7 +189,18 @@ fn work<B: Bus>(
     latches: &mut [Option<Flight>; 6],
     latch: u8,
     bus: &mut B,
-) -> u64 {
+) -> u64
+    requires on { AreOn (B.run bus.old) held.old.items }
+    requires here { AreHere held.old.items }
+    requires six { length latches.old ≡ 6 }
+    requires latch { latch < 6 }
+    requires may { MayWork held.old.items latch (slice_index_or latches.old latch None) }
+    ensures worked { HasWorked (B.run bus.old) (B.history bus.old) (B.history bus.new) result (slice_index_or latches.old latch None) held.old.items held.new.items }
+    ensures count { result ≡ due_here latch (slice_index_or latches.old latch None) }
+    ensures on { AreOn (B.run bus.old) held.new.items }
+    ensures here { AreHere held.new.items }
+    ensures bus { B.run bus.new ≡ B.run bus.old }
+{
     let Some(flight) = latches[usize::from(latch)] else {
         return 0;
     };
@@ -205,7 +216,11 @@ fn work<B: Bus>(
 }
 
 // The next hart that isn't in flight and wants an event here, from this place on and round.
-fn select(held: &[HartContext], latches: &[Option<Flight>; 6], next: usize) -> Option<Flight> {
+fn select(held: &[HartContext], latches: &[Option<Flight>; 6], next: usize) -> Option<Flight>
+    requires few { length held.now ≤ 32 }
+    ensures found { IfSome result (λ f. MayStart held.now latches.now f) }
+    ensures none { IfNone result (NoneMayStart held.now latches.now 0 (length held.now)) }
+{
     let next = next.min(held.len());
     match first_due(held, latches, next, held.len()) {
         Some(flight) => Some(flight),
@@ -219,7 +234,12 @@ fn first_due(
     latches: &[Option<Flight>; 6],
     from: usize,
     to: usize,
-) -> Option<Flight> {
+) -> Option<Flight>
+    requires few { length held.now ≤ 32 }
+    requires within { to ≤ length held.now }
+    ensures found { IfSome result (λ f. MayStart held.now latches.now f) }
+    ensures none { IfNone result (NoneMayStart held.now latches.now from to) }
+{
     for place in from..to {
         if !is_in_flight(latches, place) {
             if let Some(due) = due_latch(&held[place]) {
@@ -234,7 +254,9 @@ fn first_due(
 }
 
 // Whether an instruction of the hart at this place is in flight.
-fn is_in_flight(latches: &[Option<Flight>; 6], place: usize) -> bool {
+fn is_in_flight(latches: &[Option<Flight>; 6], place: usize) -> bool
+    ensures { result ≡ is_among latches.now place }
+{
     let [select, fetch, decode, execute, memory, end] = *latches;
     is_of(select, place)
         || is_of(fetch, place)
