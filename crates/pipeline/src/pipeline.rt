@@ -2,7 +2,7 @@ ghost use Rattle.std.specs.Prelude.{◌≡◌, ◌<◌, ◌≤◌, ◌+◌, [], 
 ghost use Rattle.flex_base.specs.declared.engine.Engine.{Engine};
 ghost use Rattle.flex_base.specs.declared.engine.Engine.TheVariants as engine;
 ghost use Rattle.context.specs.Contexts.{IsElsewhere};
-ghost use Rattle.pipeline.specs.Pipes.{Passes, moved_places, IsNearer, IsOut, AreOn, AreHere, NoneElsewhere, AreOnce, moved, is_of, is_among, place_in, MayWork, HasWorked, due_here, MayStart, NoneMayStart};
+ghost use Rattle.pipeline.specs.Pipes.{Passes, moved_places, IsNearer, IsOut, AreOn, AreHere, NoneElsewhere, AreOnce, moved, is_of, is_among, place_in, MayWork, HasHart, IsDue, Works, HasWorked, due_here, MayStart, NoneMayStart};
 
 use crate::flight::{END, FETCH, Flight, MEMORY, due_latch, goes_on, other_engine, without};
 use access_record::Bus;
@@ -207,12 +207,28 @@ fn work<B: Bus>(
     if flight.due != latch {
         return 0;
     }
-    held[usize::from(flight.place)].advance(bus);
+    make(held, flight, bus);
     if latch < END {
         let due = due_latch(&held[usize::from(flight.place)]);
         latches[usize::from(latch)] = goes_on(flight.place, latch, due);
     }
     1
+}
+
+// Makes the event that a hart in flight has due.
+fn make<B: Bus>(held: &mut Vec<HartContext>, flight: Flight, bus: &mut B)
+    requires on { AreOn (B.run bus.old) held.old.items }
+    requires here { AreHere held.old.items }
+    requires due { HasHart held.old.items flight.place (λ c. IsDue c flight.due) }
+    ensures works { Works (B.run bus.old) (B.history bus.old) (B.history bus.new) flight held.old.items held.new.items }
+    ensures on { AreOn (B.run bus.old) held.new.items }
+    ensures here { AreHere held.new.items }
+    ensures bus { B.run bus.new ≡ B.run bus.old }
+{
+    let context = &mut held[usize::from(flight.place)];
+    if !context.try_advance(bus) {
+        unreachable!()
+    }
 }
 
 // The next hart that isn't in flight and wants an event here, from this place on and round.
