@@ -1,4 +1,4 @@
-ghost use Rattle.std.specs.Prelude.{◌≡◌, ◌≢◌, ◌+◌, ◌*◌, ◌<◌, true, []};
+ghost use Rattle.std.specs.Prelude.{◌≡◌, ◌≢◌, ◌+◌, ◌*◌, ◌<◌, true, [], MatchOption};
 ghost use Rattle.flex_base.specs.Setup.{Setup};
 ghost use Rattle.flex_base.specs.State.{start};
 ghost use Rattle.flex_base.specs.Loaded.{Loaded, image_fits};
@@ -9,8 +9,9 @@ ghost use Rattle.hart_story.specs.Need.{need_of, AsksPlaced};
 ghost use Rattle.access_record.specs.Buses.{Run};
 ghost use Rattle.context.specs.declared.wants.Wants.TheVariants as Wants;
 ghost use Rattle.context.specs.declared.wants.Wants.{Wants};
-ghost use Rattle.context.specs.Obeying.{engine_wanted};
+ghost use Rattle.context.specs.Obeying.{IsFor, engine_wanted};
 ghost use Rattle.context.specs.Contexts.{new_context, plan_of, layout_of, IsRunOf, instruction_at, IsWanting, IsWantedIn, IsAsking, IsEnding, IsContext, IsOn, IsSame, Steps, Moves, HasTried, HasGone};
+ghost use Rattle.context.specs.Runs.{MakesNone};
 
 use crate::held::HeldPass;
 use crate::wants::{Wants, Went};
@@ -125,6 +126,30 @@ impl HartContext {
             Wants::Finish(class) => self.plan.engine_for(class),
             Wants::Parked => self.engine,
             Wants::Over => self.engine,
+        }
+    }
+
+    /// What the hart wants next, where the plan gives it to the engine that the hart is in.
+    pub fn wants_here(&self) -> Option<Wants>
+        ensures { MatchOption result (MakesNone self.now) (λ w. IsWanting self.now w × IsFor (plan_of self.now) w self.now.engine) }
+    {
+        match self.need() {
+            Need::Ask(_, class) => {
+                let engine = self.plan.engine_for(class);
+                if engine != self.engine {
+                    return None;
+                }
+                Some(Wants::Ask(class))
+            }
+            Need::Finish(class) => {
+                let engine = self.plan.engine_for(class);
+                if engine != self.engine {
+                    return None;
+                }
+                Some(Wants::Finish(class))
+            }
+            Need::Parked => None,
+            Need::Over => None,
         }
     }
 

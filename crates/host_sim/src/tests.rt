@@ -19,7 +19,7 @@ use std::test::Fail;
 use transplant_plan::{Plan, read_plan};
 
 const SETTINGS: Settings = Settings {
-    harts: 3,
+    harts: 2,
     ram: 0x10_0000,
     budget: 100,
 };
@@ -27,12 +27,9 @@ const SETTINGS: Settings = Settings {
 // The room of a log.
 const ROOM: u64 = 2424;
 
-// Hart 0 waits, hart 1 stores to a device and multiplies, and hart 2 jumps to where it is.
-const PROGRAM: [u8; 32] = [
-    0x93, 0x02, 0x10, 0x00, // addi x5, x0, 1
-    0x63, 0x06, 0x55, 0x00, // beq x10, x5, 12
-    0x63, 0x1a, 0x05, 0x00, // bne x10, x0, 20
-    0x73, 0x00, 0x50, 0x10, // wfi
+// Hart 0 jumps to where it is. Hart 1 stores to a device and multiplies.
+const PROGRAM: [u8; 20] = [
+    0x63, 0x08, 0x05, 0x00, // beq x10, x0, 16
     0xb7, 0x02, 0x00, 0x02, // lui x5, 0x2000
     0x23, 0xa0, 0x62, 0x00, // sw x6, 0(x5)
     0x33, 0x03, 0x63, 0x02, // mul x6, x6, x6
@@ -40,7 +37,8 @@ const PROGRAM: [u8; 32] = [
 ];
 
 // All that these harts do but multiplying.
-const PLAN: &[u8] = b"engine.fetch = 'host'\nengine.alu = 'host'\nengine.jump = 'host'\nengine.store = 'host'\nengine.system = 'host'\nengine.pulse = 'host'";
+const PLAN: &[u8] =
+    b"engine.fetch = 'host'\nengine.alu = 'host'\nengine.jump = 'host'\nengine.store = 'host'\nengine.system = 'host'\nengine.pulse = 'host'";
 
 fn image(alloc: Global) -> Result<Image, AllocError> {
     let mut parts = Vec::new(alloc);
@@ -62,7 +60,7 @@ fn begin(
     plan: Plan,
 ) -> (Founder, HartContext)
     requires founder { founder.id ≡ bus.old.run.book.id }
-    requires in_range { id.0 < 3 }
+    requires in_range { id.0 < 2 }
     requires not_yet { occurrences id.0 founder.harts ≡ 0 }
     requires run { IsTried bus.old.run image.now }
     requires fits { image_fits 1048576 image.now ≡ true }
@@ -108,10 +106,11 @@ fn one<B: Bus>(context: HartContext, bus: &mut B) -> (HartContext, Standing)
     ensures bus { B.run bus.new ≡ B.run bus.old }
 {
     let mut context = context;
-    let wanted = context.wanted_engine();
-    let is_event = matches!(context.wants(), Wants::Ask(_) | Wants::Finish(_));
-    if is_event && wanted == Engine::Host && context.engine() == Engine::Host {
-        context = HostSim::one(context, bus);
+    let may = context.engine() == Engine::Host && 0 < context.round_left();
+    if may {
+        if let Some(_wanted) = context.wants_here() {
+            context = HostSim::one(context, bus);
+        }
     }
     let stands = standing(&context);
     (context, stands)
@@ -125,37 +124,31 @@ fn a_run_stops_where_it_must(rt: HostRuntime) -> Result<(), Fail> {
         Ok(plan) => plan,
         Err(_) => panic!(rt; "plan"),
     };
-    let waits = HartLog::new(rt.alloc(), ROOM)?;
-    let stores = HartLog::new(rt.alloc(), ROOM)?;
-    let jumps = HartLog::new(rt.alloc(), ROOM)?;
-    let mut passes = Vec::with_capacity(rt.alloc(), 3)?;
+    let first_log = HartLog::new(rt.alloc(), ROOM)?;
+    let second_log = HartLog::new(rt.alloc(), ROOM)?;
+    let mut passes = Vec::with_capacity(rt.alloc(), 2)?;
     let input = Vec::new(rt.alloc());
     let Ok((mut bus, founder)) = PlainBus::new(rt.alloc(), &image, &SETTINGS, 4, input) else {
         passes.destroy_empty();
         panic!(rt; "memory")
     };
-    let (founder, waits) = begin(&mut bus, founder, &image, HartId(0), waits, plan);
-    let (founder, stores) = begin(&mut bus, founder, &image, HartId(1), stores, plan);
-    let (founder, jumps) = begin(&mut bus, founder, &image, HartId(2), jumps, plan);
-    let (jumps, fetched) = one(jumps, &mut bus);
-    let (waits, parked) = run(waits, &mut bus);
-    let (stores, at_product) = run(stores, &mut bus);
-    let (jumps, after_run) = run(jumps, &mut bus);
-    let (jumps, at_last) = run(jumps, &mut bus);
-    let (_, pass, waits) = waits.dissolve();
-    passes.push_reserved(pass);
-    let (_, pass, stores) = stores.dissolve();
-    passes.push_reserved(pass);
-    let (_, pass, jumps) = jumps.dissolve();
-    passes.push_reserved(pass);
+    let (founder, second) = begin(&mut bus, founder, &image, HartId(1), second_log, plan);
+    let (founder, first) = begin(&mut bus, founder, &image, HartId(0), first_log, plan);
+    let (first, after_one) = one(first, &mut bus);
+    let (first, after_ends) = run(first, &mut bus);
+    let (second, other) = run(second, &mut bus);
+    let (first, at_last) = run(first, &mut bus);
+    let (_, first_pass, log) = first.dissolve();
+    let (_, second_pass, second_log) = second.dissolve();
+    passes.push_reserved(first_pass);
+    passes.push_reserved(second_pass);
     let mut end = bus.dissolve();
     let closed = end.settle(founder, passes);
     end.discard();
-    assert_eq!(rt; fetched, (0, Wants::Finish(Class::Alu)));
-    assert_eq!(rt; parked, (3, Wants::Parked));
-    assert_eq!(rt; at_product, (4, Wants::Finish(Class::Muldiv)));
-    assert_eq!(rt; after_run, (64, Wants::Ask(Class::Pulse)));
+    assert_eq!(rt; after_one, (0, Wants::Finish(Class::Jump)));
+    assert_eq!(rt; after_ends, (64, Wants::Ask(Class::Pulse)));
     assert_eq!(rt; at_last, (100, Wants::Over));
-    assert_eq!(rt; [waits.len() + stores.len() + jumps.len()], [closed.count]);
+    assert_eq!(rt; other, (3, Wants::Finish(Class::Muldiv)));
+    assert_eq!(rt; log.len() + second_log.len(), closed.count);
     Ok(())
 }

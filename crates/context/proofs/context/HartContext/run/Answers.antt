@@ -8,7 +8,7 @@ use Rattle.context.proofs.context.HartContext.run.Goals as goal
 pub loop-self-preserved : goal.loop-self-preserved
 loop-self-preserved g c =
     let Made : Run → Type 0 = λ r.
-        Steps r (g.B.Bus.history c.loop-self.bus) (g.B.Bus.history c.try_advance.new.bus) c.loop-self.self c.try_advance.new.self × IsOn r c.try_advance.new.self in
+    Steps r (g.B.Bus.history c.loop-self.bus) (g.B.Bus.history c.try_advance.new.bus) c.loop-self.self c.try_advance.new.self × IsOn r c.try_advance.new.self in
     let made = subst Made c.loop-self.invariant.1 (c.if-not-try_advance.ensures.advanced.1, c.try_advance.ensures.on) in (
       run_goes_on _ _ _ _ _ _ _ _ c.loop-self.invariant.0 (search rules) made.0 c.try_advance.ensures.same made.1,
       c.try_advance.ensures.bus ∙ c.loop-self.invariant.1,
