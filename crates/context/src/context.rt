@@ -325,6 +325,7 @@ impl HartContext {
     }
 
     // What the story says of the hart.
+    #[inline(always)]
     fn need(&self) -> Need
         ensures told { (setup : Setup) → IsRunOf self.now.entry self.now.settings setup
             → result ≡ need_of (wanted setup (instruction_at setup self.now)) }
