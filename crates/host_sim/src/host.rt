@@ -8,7 +8,7 @@ use context::HartContext;
 
 /// The host. It keeps nothing between two calls.
 ///
-/// It may run each class of work that a plan may give it, devices among them, which no other engine may run.
+/// It may run each class of work, devices among them, which no other engine may run.
 pub struct HostSim;
 
 // After so many ends a run gives its hart back.

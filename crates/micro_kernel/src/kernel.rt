@@ -8,7 +8,7 @@ use context::HartContext;
 
 /// The kernel. It keeps nothing between two calls.
 ///
-/// It may run each class of work that a plan may give it, which is all but devices.
+/// It may run each class of work but devices.
 pub struct Kernel;
 
 // After so many ends a run gives its hart back.

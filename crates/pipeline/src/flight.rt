@@ -49,11 +49,15 @@ fn latch_for(wants: Wants) -> u8
 pub(crate) fn other_engine(context: &HartContext) -> Option<Engine>
     ensures other { MatchOption result ((to : Engine) → IsElsewhere to context.now → ⊥) (λ to. IsElsewhere to context.now) }
 {
-    let wanted = context.wanted_engine();
-    if wanted == context.engine() {
+    if context.round_left() == 0 {
         return None;
     }
-    Some(wanted)
+    let _wants = context.wants();
+    let engine = context.wanted_engine();
+    if engine == context.engine() {
+        return None;
+    }
+    Some(engine)
 }
 
 // What is in a latch once the hart at this place is taken out, so that those after it move up.
