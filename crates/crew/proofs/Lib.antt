@@ -1,0 +1,7 @@
+mod BankReplies
+mod Ascending
+mod Numbered
+mod Parts
+mod Steps
+mod Going
+mod WholeRun
