@@ -3,6 +3,7 @@ use Rattle.std.proofs.Common.{◌≡◌, ◌≢◌, ◌⊎◌, inl, inr, ℕ, ze
 use Rattle.std.specs.List.{filter, flat_map, range_with_len}
 use Rattle.std.proofs.lemmas.List.Elements.{filter-append}
 use Rattle.std.proofs.lemmas.Bool.{cases_eq}
+use Rattle.std.proofs.lemmas.Bool.Decides.{leb_tells}
 use Rattle.flex_base.specs.declared.event.Event.{Event}
 use Rattle.flex_base.specs.Journal.{numbers_of}
 use Rattle.flex_base.specs.Merging.{has_number, merge}
@@ -125,23 +126,64 @@ of_some harts e low (suc count) i = elim (in_append e (harts low) (flat_map hart
 ]
 
 module _ (limits : Limits) (n : ℕ) (harts banks : ℕ → List LogEntry) (is : IsRecord limits n harts banks) where
-  -- the one log of a number is that of a hart below the limit
-  one_below : (k : ℕ) → k < n → (is.once k (omega arith)).hart < limits.harts
-  one_below k below = ?
+  -- who has an entry is a hart below the limit
+  hart_below : (hart k : ℕ) → HasNumber k (harts hart) → hart < limits.harts
+  hart_below hart k has = elim (leb_tells limits.harts hart) [
+    | inl far ↦ absurd (subst (λ (l : List LogEntry). HasNumber k l) (is.no_hart hart far.1) has)
+    | inr near ↦ omega (arith, near.1)
+  ]
 
   one_of : (k : ℕ) → k < n → IsOne k (entries_of limits.harts harts)
   unfolding entries_of
   one_of k below =
       let once = is.once k below in
-      one_in harts n k is.hart_numbers once 0 limits.harts (omega arith) ?
+      let under = hart_below once.hart k once.here in
+      one_in harts n k is.hart_numbers once 0 limits.harts (omega arith) (omega (arith, under))
+
+  own : (e : LogEntry) → In e (entries_of limits.harts harts) → In e (harts e.event.hart.0)
+  unfolding entries_of
+  own e i =
+      let some = of_some harts e 0 limits.harts i in
+      subst (λ (h : ℕ). In e (harts h)) (sym (hart_of_it some.0 e (harts some.0) (is.own some.0) some.1)) some.1
 
   pub is_merge : IsMergeOf n harts (merged n (entries_of limits.harts harts))
   unfolding merged
-  is_merge = record {
-    numbers = counts (entries_of limits.harts harts) n one_of 0 n (omega arith);
-    all = counted (entries_of limits.harts harts) n one_of 0 n (omega arith);
-    each = λ e i. own e (come (entries_of limits.harts harts) n one_of e 0 n i);
-  }
-    where
-      own : (e : LogEntry) → In e (entries_of limits.harts harts) → In e (harts e.event.hart.0)
-      own e i = ?
+  is_merge =
+      let es = entries_of limits.harts harts in record {
+        numbers = counts es n one_of 0 n (omega arith);
+        all = counted es n one_of 0 n (omega arith);
+        each = λ e i. own e (come es n one_of e 0 n i);
+      }
+
+-- The numbers of the events, and the events merged.
+
+pub numbers_counted : (low : ℕ) (es : List LogEntry) → Counts low es → numbers_of (events_of es) ≡ range_with_len low (length (events_of es))
+unfolding numbers_of
+numbers_counted low [] c = refl
+numbers_counted low (e ∷ es) c = ap (λ (ks : List ℕ). e.event.number ∷ ks) (numbers_counted (low + 1) es c.1) ∙ ap (λ k. k ∷ range_with_len (low + 1) (length (events_of es))) c.0
+
+events_append : (xs ys : List LogEntry) → events_of (xs ++ ys) ≡ events_of xs ++ events_of ys
+events_append [] ys = refl
+events_append (x ∷ xs) ys = ap (λ (es : List Event). x.event ∷ es) (events_append xs ys)
+
+filter_events : (k : ℕ) (es : List LogEntry) → filter (has_number k) (events_of es) ≡ events_of (filter (is_numbered k) es)
+filter_events k [] = refl
+filter_events k (e ∷ es) = by (e.event.number == k) (filter_events k es)
+  where
+    by : (b : Bool) → filter (has_number k) (events_of es) ≡ events_of (filter (is_numbered k) es)
+        → cond b (e.event ∷ filter (has_number k) (events_of es)) (filter (has_number k) (events_of es)) ≡ events_of (cond b (e ∷ filter (is_numbered k) es) (filter (is_numbered k) es))
+    by true rest = ap (λ (xs : List Event). e.event ∷ xs) rest
+    by false rest = rest
+
+merge_from : (es : List LogEntry) (low count : ℕ) → flat_map (λ k. filter (has_number k) (events_of es)) (range_with_len low count)
+    ≡ events_of (flat_map (λ k. filter (is_numbered k) es) (range_with_len low count))
+merge_from es low zero = refl
+merge_from es low (suc count) =
+    let more = flat_map (λ k. filter (has_number k) (events_of es)) (range_with_len (low + 1) count) in
+    ap (λ (xs : List Event). xs ++ more) (filter_events low es)
+    ∙ ap (λ (xs : List Event). events_of (filter (is_numbered low) es) ++ xs) (merge_from es (low + 1) count)
+    ∙ sym (events_append (filter (is_numbered low) es) (flat_map (λ k. filter (is_numbered k) es) (range_with_len (low + 1) count)))
+
+pub merge_events : (n : ℕ) (es : List LogEntry) → merge n (events_of es) ≡ events_of (merged n es)
+unfolding merge merged
+merge_events n es = merge_from es 0 n
