@@ -6,6 +6,8 @@ ghost use Rattle.access_record.specs.Passes.{add_hart};
 ghost use Rattle.context.specs.Contexts.{IsOn, IsSame};
 ghost use Rattle.host_sim.specs.Tried.{IsTried};
 
+mod threads;
+
 use super::*;
 use access_record::{Bus, Founder};
 use context::{HartContext, Wants};
@@ -40,7 +42,8 @@ const PROGRAM: [u8; 32] = [
 ];
 
 // All that these harts do but multiplying.
-const PLAN: &[u8] = b"engine.fetch = 'host'\nengine.alu = 'host'\nengine.jump = 'host'\nengine.store = 'host'\nengine.system = 'host'\nengine.pulse = 'host'";
+const PLAN: &[u8] =
+    b"engine.fetch = 'host'\nengine.alu = 'host'\nengine.jump = 'host'\nengine.store = 'host'\nengine.system = 'host'\nengine.pulse = 'host'";
 
 fn image(alloc: Global) -> Result<Image, AllocError> {
     let mut parts = Vec::new(alloc);
@@ -64,7 +67,7 @@ fn begin(
     requires founder { founder.id ≡ bus.old.run.book.id }
     requires in_range { id.0 < 3 }
     requires not_yet { occurrences id.0 founder.harts ≡ 0 }
-    requires run { IsTried bus.old.run image.now }
+    requires run { IsTried 3 bus.old.run image.now }
     requires fits { image_fits 1048576 image.now ≡ true }
     requires log { log ≡ record { events = []; room = 2424 } }
     ensures founder { result.0 ≡ add_hart founder id }
