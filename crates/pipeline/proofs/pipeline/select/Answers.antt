@@ -1,10 +1,12 @@
-use Rattle.std.proofs.Common.{rules, ◌≡◌, ◌<◌, ◌≤◌, ◌+◌, [], ◌∷◌, ◌++◌, length, map, slice_index_or, None, IfOk, IfSome, IfNone, ℕ, ◌-◌, ◌*◌, ◌/◌, ◌%◌, Bool, true, false, nat_eq, nat_lt, List, slice_set, bit_and, bit_or, Fits, w8, w32, w64, Bor, MutBor}
-use Rattle.flex_base.specs.declared.engine.Engine.{Engine}
-use Rattle.flex_base.specs.declared.engine.Engine.TheVariants as engine
-use Rattle.context.specs.Contexts.{IsElsewhere}
-use Rattle.pipeline.specs.Pipes.{Passes, moved_places, IsNearer, IsOut, AreOn, AreHere, NoneElsewhere, AreOnce, moved, is_of, is_among, place_in, MayWork, HasHart, IsDue, Works, HasWorked, due_here, MayStart, NoneMayStart}
+-- Those from the place on and those before it are all.
+use Rattle.std.proofs.Common.{length}
+use Rattle.pipeline.specs.Pipes.{NoneMayStart}
+use Rattle.pipeline.proofs.Selecting.{none_joined, none_follows}
 use Rattle.pipeline.proofs.pipeline.select.Goals as goal
 
--- src/pipeline.rt:235:1
 pub returns-in-None-clause-none : goal.returns-in-None-clause-none
-returns-in-None-clause-none c = ?
+returns-in-None-clause-none c =
+    let held = c.args.held.now in
+    let latches = c.args.latches.now in
+    none_follows c.first_due-in-None.result (NoneMayStart held latches 0 c.min-next.result) (NoneMayStart held latches 0 (length held))
+    (λ before. none_joined held latches 0 c.min-next.result (length held) before c.in-None.ensures.none) c.first_due-in-None.ensures.none
