@@ -1,0 +1,5 @@
+mod BankReplies
+mod Ascending
+mod Numbered
+mod Parts
+mod Steps
