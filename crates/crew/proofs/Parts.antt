@@ -48,7 +48,7 @@ module _ (limits : Limits) (n : ℕ) (harts banks : ℕ → List LogEntry) (is :
       let there = merge.each d found.there in
       let once = is.once e.event.number below in
       let of_it : d.event.hart.0 ≡ hart = once.alone d.event.hart.0 (in_number e.event.number d (harts d.event.hart.0) there found.number)
-          ∙ sym (once.alone hart (in_number e.event.number e (harts hart) i refl)) in
+      ∙ sym (once.alone hart (in_number e.event.number e (harts hart) i refl)) in
       let same : d ≡ e = same_number 0 n (harts hart) d e (is.hart_numbers hart) (subst (λ (h : ℕ). In d (harts h)) of_it there) i found.number in
       subst (λ (z : LogEntry). In z es) same found.there
 
