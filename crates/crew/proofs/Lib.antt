@@ -3,5 +3,4 @@ mod Ascending
 mod Numbered
 mod Parts
 mod Steps
-mod Going
 mod WholeRun

@@ -10,9 +10,9 @@ use Rattle.flex_base.specs.StoryTree.{Want, Asks, Ends, IsParked}
 use Rattle.flex_base.specs.FlatMemory.{Done, is_ram_access, flat}
 use Rattle.flex_base.specs.Forms.{IsPlaced}
 use Rattle.flex_base.specs.Devices.{hart_at, is_unwoken, devices, reply_after}
-use Rattle.flex_base.specs.Banks.{bank_of, address_of, bank_of_access, access_in, reply_at, IsProper, IsAnswered}
-use Rattle.flex_base.specs.Following.{next_access, MayDo}
-use Rattle.flex_base.specs.Unsplit.{Machine, Made, does, instruction_at, want_of, next_of, is_woken_in, reply_to, with_access, make, step, reach_from}
+use Rattle.flex_base.specs.Banks.{bank_of, address_of, bank_of_access, access_in, reply_at, IsProper}
+use Rattle.flex_base.specs.Following.{next_access}
+use Rattle.flex_base.specs.Unsplit.{Machine, Made, does, want_of, next_of, reply_to, with_access, make, step, reach_from}
 use Rattle.flex_base.specs.Journal.{is_handover, strip}
 use Rattle.flex_base.specs.declared.access.Access.{Access}
 use Rattle.flex_base.specs.declared.access.Access.TheVariants as acc

@@ -1,5 +1,5 @@
 -- The entries of several logs in the order of their numbers.
-use Rattle.std.specs.Prelude.{◌≡◌, ℕ, suc, Bool, ◌==◌, List, [], ◌∷◌, length}
+use Rattle.std.specs.Prelude.{ℕ, Bool, ◌==◌, List}
 use Rattle.std.specs.List.{filter, flat_map, range_with_len}
 use Rattle.access_record.specs.declared.entry.LogEntry.{LogEntry}
 

@@ -9,7 +9,6 @@ ghost use Rattle.crew.specs.LogsOfRun.{AreLogsOfRun, IsRunOf, journal_of};
 
 /// Of the merged entries those that name a hart are its log, and those that name a bank are the
 /// bank's.
-#[tactic(auto, using(crate::proofs::Parts::part_of_hart, crate::proofs::Parts::part_of_bank))]
 pub fn merged_parts()
     ensures hart { (limits : Limits) (n : ℕ) (harts banks : ℕ → List LogEntry) (hart : ℕ) → IsRecord limits n harts banks → of_hart hart (merged n (entries_of limits.harts harts)) ≡ harts hart }
     ensures bank { (limits : Limits) (n : ℕ) (harts banks : ℕ → List LogEntry) (bank : ℕ) → IsRecord limits n harts banks → on_bank bank (merged n (entries_of limits.harts harts)) ≡ banks bank }
