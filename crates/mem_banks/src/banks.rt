@@ -15,7 +15,7 @@ use crate::run_name::RunName;
 use access_record::{AccessRecord, BankPass, Pass};
 use flex_base::{Access, Engine, Reply};
 use mem_lines::Lines;
-use std::alloc::Global;
+use std::alloc::{AllocError, Global};
 use std::marker::PhantomData;
 use std::sync::{Mutex, MutexGuard, Wait};
 
@@ -52,6 +52,16 @@ pub struct LockRoom<N: RunName> {
 }
 
 impl<N: RunName> LockRoom<N> {
+    /// Room for the locks of so many banks, which is how many the named run has. An error is want of
+    /// memory.
+    pub fn new(alloc: Global, banks: usize) -> Result<LockRoom<N>, AllocError>
+        requires run { HasBanks N.run }
+        requires banks { banks ≡ ram_banks N.run }
+    {
+        let cells = Vec::with_capacity(alloc, banks)?;
+        Ok(LockRoom { cells })
+    }
+
     /// Gives up the room.
     pub fn discard(self) {
         let LockRoom { cells } = self;
@@ -66,13 +76,10 @@ impl<N: RunName> Banks<N> {
         requires run { plain.run ≡ N.run }
         ensures same { IfErr result (λ p. p ≡ plain) }
     {
-        let mut cells = Vec::new(alloc);
-        if cells.reserve(plain.banks()).is_err() {
-            cells.destroy_empty();
-            return Err(plain);
+        match LockRoom::new(alloc, plain.banks()) {
+            Ok(room) => Ok(Banks::renew(plain.dissolve(), room)),
+            Err(AllocError) => Err(plain),
         }
-        let memory = plain.dissolve();
-        Ok(Banks::renew(memory, LockRoom { cells }))
     }
 
     /// Makes the locks again, of a memory of the named run that isn't settled. It takes no memory.

@@ -4,6 +4,7 @@ use Rattle.flex_base.specs.Setup.{Setup}
 use Rattle.flex_base.specs.FlatMemory.{byte}
 use Rattle.flex_base.specs.Devices.{device_stop}
 use Rattle.flex_base.specs.Unsplit.{Machine, instruction_at}
+use Rattle.flex_base.specs.Journal.{strip}
 use Rattle.flex_base.specs.declared.event.Event.{Event}
 use Rattle.hart_story.specs.StandsFor.{StandsFor}
 use Rattle.hart_story.specs.declared.hart.Hart.{Hart}
@@ -36,11 +37,16 @@ pub record IsMemoryAt (setup : Setup) (u : Machine) (memory : Memory) : Type 0 w
   pub keeps : memory.devices.console.keeps ≡ true
   pub settled : memory.unsettled ≡ None
 
--- what is left of a run that ended in this state under this plan
-pub record IsEnd (setup : Setup) (plan : Plan) (u : Machine) (ended : Ended) : Type 0 where
+-- what is left of a run that ended in this state, with this journal
+pub record IsEndOf (setup : Setup) (journal : List Event) (u : Machine) (ended : Ended) : Type 0 where
+  pub made : strip journal ≡ u.events
   pub stop_is : device_stop setup.harts u.devices ≡ Some ended.stop
   pub counted : length ended.harts.items ≡ setup.harts
   pub harts : (h : ℕ) (other : Hart) → h < setup.harts
       → StandsFor (slice_index_or ended.harts.items h other) (instruction_at u h).state
-  pub logs : AreHartLogs setup.harts (split (engines_of plan) setup.harts u.events) ended.logs.items
+  pub logs : AreHartLogs setup.harts journal ended.logs.items
   pub memory : IsMemoryAt setup u ended.memory
+
+-- so of one whose journal is the plan's split of what was done
+abbrev pub IsEnd : Setup → Plan → Machine → Ended → Type 0
+IsEnd setup plan u ended = IsEndOf setup (split (engines_of plan) setup.harts u.events) u ended

@@ -6,7 +6,8 @@
 mod machine;
 mod room;
 
-pub use machine::SoloMachine;
+pub use machine::{SoloMachine, begin_harts};
+pub use room::{Parts, empty_logs, take_apart};
 
 #[cfg(test)]
 mod tests;

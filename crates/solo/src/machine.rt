@@ -354,8 +354,10 @@ impl SoloMachine {
     }
 }
 
-// Each hart of the settings at its start, in a context with one of these logs.
-fn begin_harts(
+/// Each hart of the settings at its start, in a context with one of these logs.
+///
+/// The bus has enrolled no hart.
+pub fn begin_harts(
     bus: &mut PlainBus,
     mut founder: Founder,
     mut contexts: Vec<HartContext>,
@@ -376,6 +378,7 @@ fn begin_harts(
     ensures begun { AreBegun bus.old.run plan settings.now settings.now.harts founder result.0 result.1.items }
     ensures left { vec_len logs.new ≡ 0 }
     ensures room { vec_capacity logs.new ≡ vec_capacity logs.old }
+    ensures spare { vec_capacity result.1 ≡ vec_capacity contexts }
     ensures same { bus.new ≡ bus.old }
 {
     for h in 0..settings.harts {

@@ -11,16 +11,16 @@ use hart_story::Hart;
 use journal::HartLog;
 use std::alloc::{AllocError, Global};
 
-// The parts of the contexts at the end of a run, in rising order: the harts, their logs and their
-// passes.
-pub(crate) struct Parts {
-    pub(crate) harts: Vec<Hart>,
-    pub(crate) logs: Vec<HartLog>,
-    pub(crate) passes: Vec<Pass>,
+/// The parts of the contexts at the end of a run, in rising order: the harts, their logs and their
+/// passes.
+pub struct Parts {
+    pub harts: Vec<Hart>,
+    pub logs: Vec<HartLog>,
+    pub passes: Vec<Pass>,
 }
 
-// An empty log for each hart, with room for 24 events an end and 24 more.
-pub(crate) fn empty_logs(alloc: Global, settings: &Settings) -> Result<Vec<HartLog>, AllocError>
+/// An empty log for each hart, with room for 24 events an end and 24 more.
+pub fn empty_logs(alloc: Global, settings: &Settings) -> Result<Vec<HartLog>, AllocError>
     requires { is_lawful settings.now ≡ true }
     ensures logs { IfOk result (λ logs. logs.items ≡ are_empty settings.now settings.now.harts) }
     ensures room { IfOk result (λ logs. settings.now.harts ≤ vec_capacity logs) }
@@ -32,8 +32,8 @@ pub(crate) fn empty_logs(alloc: Global, settings: &Settings) -> Result<Vec<HartL
     Ok(logs)
 }
 
-// Takes the contexts apart.
-pub(crate) fn take_apart(mut contexts: Vec<HartContext>, mut parts: Parts) -> Parts
+/// Takes contexts apart, in their order.
+pub fn take_apart(mut contexts: Vec<HartContext>, mut parts: Parts) -> Parts
     requires none { (vec_len parts.harts ≡ 0) × (vec_len parts.logs ≡ 0) × (vec_len parts.passes ≡ 0) }
     requires room { (vec_len contexts ≤ vec_capacity parts.harts) × (vec_len contexts ≤ vec_capacity parts.logs)
         × (vec_len contexts ≤ vec_capacity parts.passes) }
