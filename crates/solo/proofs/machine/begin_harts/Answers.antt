@@ -22,7 +22,7 @@ loop-h-preserved c =
     let settings = c.args.settings.now in
     let plan = c.args.plan in
     let h = c.loop-h.h in
-    let (begun, same, within, logs, logs_room, room) = c.loop-h.invariant in
+    let (begun, same, within, logs, logs_room, room, kept) = c.loop-h.invariant in
     let pass_is = c.enrol-next.ensures.pass ∙ ap (λ id. new_pass id (record { 0 = h })) (begun.id ∙ c.requires.founder.0) in
     let one = is_begun run plan settings h c.args.entry c.start-hart.result c.enrol-next.result.1 c.in-Some.log c.new.result c.start-hart.ensures pass_is
     c.requires.entry c.requires.run c.new.ensures.context c.new.ensures.entry (λ id of. c.new.ensures.on run id of c.requires.limits.1) in
@@ -35,6 +35,7 @@ loop-h-preserved c =
       omega (arith, c.loop-h-test.true),
       c.pop.ensures.rest ∙ logs_left settings (settings.harts - h) (vec_len c.loop-h.logs - 1) c.loop-h.logs.items logs (omega (arith, counted)) ∙ ap (are_empty settings) left,
       c.pop.ensures.capacity ∙ logs_room,
+      search rules,
       search rules,
     )
 
