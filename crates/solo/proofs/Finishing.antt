@@ -39,7 +39,7 @@ use Rattle.solo.specs.Rising.{Rises, numbered_from}
 use Rattle.solo.specs.Standing.{of_bank, Serves, IsAt}
 use Rattle.solo.specs.End.{AreHartLogs, HoldsRam, IsMemoryAt, IsEnd}
 use Rattle.solo.proofs.Flat.{byte_of_part}
-use Rattle.solo.proofs.Parts.{all_of_harts}
+use Rattle.solo.proofs.HartParts.{all_of_harts}
 use Rattle.solo.proofs.Ending.{AreBelow, ascends_below, numbers_known}
 use Rattle.solo.proofs.Taking.{AllHave}
 use Rattle.solo.proofs.Settling.{passes_of, AreNumbered, log_at, each_pass, all_passes}
