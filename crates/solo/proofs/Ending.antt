@@ -10,7 +10,7 @@ use Rattle.journal.specs.Merged.{of_hart}
 use Rattle.solo.specs.Rising.{Rises, numbered_from, AreOfHarts}
 use Rattle.solo.proofs.Rising.{rises_numbered}
 use Rattle.journal.proofs.Merging.{of_hart-none}
-use Rattle.solo.proofs.Parts.{of_hart-cons}
+use Rattle.solo.proofs.HartParts.{of_hart-cons}
 
 -- Numbers below the count of the record.
 

@@ -9,7 +9,7 @@ use Rattle.flex_base.specs.Banks.{bank_of, accesses_of}
 use Rattle.flex_base.specs.Following.{instruction_of}
 use Rattle.flex_base.specs.Devices.{device_stop}
 use Rattle.flex_base.specs.Unsplit.{Machine, Instruction, instruction_at, has_ended}
-use Rattle.flex_base.specs.Journal.{IsLegal, numbers_of}
+use Rattle.flex_base.specs.Journal.{IsLegal, numbers_of, strip}
 use Rattle.flex_base.specs.declared.event.Event.{Event}
 use Rattle.flex_base.specs.declared.event.Stop.{Stop}
 use Rattle.flex_base.proofs.Turns.{stop_ended}
@@ -27,7 +27,7 @@ use Rattle.devices.specs.View as devices
 use Rattle.devices.specs.View.{DevicesView}
 use Rattle.transplant_plan.specs.Split.{split}
 use Rattle.transplant_plan.specs.declared.plan.Plan.{Plan}
-use Rattle.transplant_plan.proofs.Splits.{split_legal}
+use Rattle.transplant_plan.proofs.Splits.{split_legal, strip-split-unsplit}
 use Rattle.mem_banks.specs.Plain.{Plain}
 use Rattle.mem_banks.specs.End.{Memory, IsMemoryOf, MaySettle, logs_in}
 use Rattle.mem_banks.specs.declared.ended.Ended.{Ended}
@@ -39,7 +39,7 @@ use Rattle.solo.specs.Rising.{Rises, numbered_from}
 use Rattle.solo.specs.Standing.{of_bank, Serves, IsAt}
 use Rattle.solo.specs.End.{AreHartLogs, HoldsRam, IsMemoryAt, IsEnd}
 use Rattle.solo.proofs.Flat.{byte_of_part}
-use Rattle.solo.proofs.Parts.{all_of_harts}
+use Rattle.solo.proofs.HartParts.{all_of_harts}
 use Rattle.solo.proofs.Ending.{AreBelow, ascends_below, numbers_known}
 use Rattle.solo.proofs.Taking.{AllHave}
 use Rattle.solo.proofs.Settling.{passes_of, AreNumbered, log_at, each_pass, all_passes}
@@ -221,7 +221,9 @@ is_end setup u s plan n passes ds ended at plan_is are harts logs taken closed s
     let Closed : List PassOfHart → Type 0 = λ ps. AreRecord s.bus.run.book.limits n ps ds in
     let Harts : List Hart → Type 0 = λ hs. (h : ℕ) (other : Hart) → h < setup.harts → StandsFor (get_or hs h other) (instruction_at u h).state in
     let Logs : Plan × List Log → Type 0 = λ x. AreHartLogs setup.harts (split (engines_of x.0) setup.harts u.events) x.1 in
+    let Made : Machine → Type 0 = λ m. strip (split (engines_of plan) setup.harts m.events) ≡ m.events in
     record {
+      made = subst Made (sym at.reached.is) (strip-split-unsplit setup (engines_of plan) at.reached.order);
       stop_is = stop;
       counted = ap (λ (hs : List Hart). length hs) harts ∙ length-map s.contexts (λ (c : Context). c.hart) ∙ at.counted;
       harts = subst Harts (sym harts) (harts_end setup u s at are);

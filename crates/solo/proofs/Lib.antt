@@ -1,7 +1,7 @@
 pub mod Rising
 pub mod Rounds
 pub mod Standing
-pub mod Parts
+pub mod HartParts
 pub mod Stepping
 pub mod Making
 pub mod Flat
