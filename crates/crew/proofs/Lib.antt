@@ -4,3 +4,6 @@ mod Numbered
 mod Parts
 mod Steps
 mod WholeRun
+mod Counting
+mod Working
+mod Moving

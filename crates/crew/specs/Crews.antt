@@ -1,5 +1,5 @@
 -- The harts of a crew: those at rest with its coordinator, and those that its workers hold.
-use Rattle.std.specs.Prelude.{◌≡◌, ◌≢◌, ⊥, ℕ, ◌+◌, ◌<◌, ◌≤◌, ◌==◌, nat_lt, if◌then◌else◌, List, [], All, length, slice_index_or, Option, None, Some}
+use Rattle.std.specs.Prelude.{◌≡◌, ◌≢◌, ⊥, ℕ, ◌+◌, ◌<◌, ◌≤◌, ◌==◌, nat_lt, if◌then◌else◌, List, [], All, length, slice_index_or, Option, None, Some, IfSome}
 use Rattle.std.specs.List.{sum_by}
 use Rattle.flex_base.specs.Setup.{Setup}
 use Rattle.flex_base.specs.declared.engine.Engine.{Engine}
@@ -48,15 +48,19 @@ abbrev pub filled : Option Context → ℕ
 filled None = 0
 filled (Some c) = 1
 
+abbrev pub count_among : List Berth → ℕ
+count_among workers = sum_by (λ (w : Berth). length w.contexts) workers
+
 abbrev pub count_of : Crew → ℕ
-count_of crew = sum_by filled crew.resting + sum_by (λ (w : Berth). length w.contexts) crew.workers
+count_of crew = sum_by filled crew.resting + count_among crew.workers
 
 -- What holds of each.
 
--- the context is of this run and plan
+-- the context is of this run and plan, and of a hart of the run
 pub record IsOfCrew (run : Run) (plan : Plan) (c : Context) : Type 0 where
   pub on : IsOn run c
   pub plan_is : c.plan ≡ plan
+  pub below : c.pass.hart.0 < run.setup.harts
 
 -- what rests at this place, if anything, is the hart of its number
 abbrev pub IsResting : Run → Plan → ℕ → Option Context → Type 0
@@ -93,6 +97,7 @@ pub record IsCrewBut (run : Run) (in_hand : Option Context) (crew : Crew) : Type
   pub once : (hart : ℕ) → hart < run.setup.harts
       → times_resting hart crew.resting + times_among hart crew.workers + times_at hart in_hand ≡ 1
   pub all : count_of crew + filled in_hand ≡ run.setup.harts
+  pub hand : IfSome in_hand (λ c. IsOfCrew run crew.plan c)
 
 abbrev pub IsCrew : Run → Crew → Type 0
 IsCrew run crew = IsCrewBut run None crew
@@ -117,6 +122,13 @@ IsHeld (Some c) = Unit {0}
 -- a context lies at each place
 abbrev pub AreAllResting : List (Option Context) → Type 0
 AreAllResting resting = All IsHeld resting
+
+-- this worker gives a context back, or has none, and the others are as before
+pub record TakesBack (number : ℕ) (given : Option Context) (old new : List Berth) : Type 0 where
+  pub counted : length new ≡ length old
+  pub count : count_among new + filled given ≡ count_among old
+  pub none : given ≡ None → (other : Berth) → (slice_index_or new number other).contexts ≡ []
+  pub others : (k : ℕ) (other : Berth) → k ≢ number → slice_index_or new k other ≡ slice_index_or old k other
 
 -- this worker gives all back, and the others are as before
 pub record Empties (number : ℕ) (old new : List Berth) : Type 0 where

@@ -1,7 +1,7 @@
 ghost use Rattle.std.specs.Prelude.{◌≡◌, ◌<◌, true, All, length, IfSome, Some};
 ghost use Rattle.access_record.specs.Buses.{Run};
 ghost use Rattle.context.specs.Contexts.{IsOn, IsSame};
-ghost use Rattle.crew.specs.Crews.{IsCrew, IsCrewBut, AreHome, Empties, MayWork, WorkerHasWorked, AllHaveWorked, count_by, engine_of_worker};
+ghost use Rattle.crew.specs.Crews.{IsCrew, IsCrewBut, AreHome, Empties, TakesBack, MayWork, WorkerHasWorked, AllHaveWorked, count_by, engine_of_worker};
 ghost use Rattle.crew.specs.Played.{IsAtRest, AreAtRest};
 
 use crate::worker::Worker;
@@ -154,12 +154,11 @@ impl Crew {
     {
         let pipes = self.plan.pipes();
         let kernels = self.plan.kernels();
-        let number = match engine {
-            Engine::Pipe => hart % pipes,
-            Engine::Kernel => pipes + hart % kernels,
-            Engine::Host => pipes + kernels,
-        };
-        number as usize
+        match engine {
+            Engine::Pipe => (hart % pipes) as usize,
+            Engine::Kernel => (pipes + hart % kernels) as usize,
+            Engine::Host => (pipes + kernels) as usize,
+        }
     }
 
     // Whether each hart that rests is over, or waits and these devices don't wake it.
@@ -196,9 +195,20 @@ impl Crew {
         ensures empties { Empties number self.old.workers self.new.workers }
         ensures plan { self.new.plan ≡ self.old.plan }
     {
-        while let Some(context) = self.workers[number].give_back() {
+        while let Some(context) = self.take_back(number) {
             self.rest(context);
         }
+    }
+
+    // Takes a hart back from a worker, where it has one.
+    fn take_back(&mut self, number: usize) -> Option<HartContext>
+        requires crew { (run : Run) × IsCrew run self.old }
+        requires number { number < length self.old.workers }
+        ensures crew { (run : Run) → IsCrew run self.old → IsCrewBut run result self.new }
+        ensures workers { TakesBack number result self.old.workers self.new.workers }
+        ensures plan { self.new.plan ≡ self.old.plan }
+    {
+        self.workers[number].give_back()
     }
 
     // All workers run their harts beside one another.

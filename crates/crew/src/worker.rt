@@ -1,7 +1,7 @@
-ghost use Rattle.std.specs.Prelude.{◌≡◌, ◌++◌, ◌∷◌, ◌<◌, [], IfOk, All, length, MatchOption, None};
+ghost use Rattle.std.specs.Prelude.{◌≡◌, ◌++◌, ◌∷◌, ◌<◌, ◌≤◌, [], IfOk, All, length, option_to_list, None, vec_capacity};
 ghost use Rattle.flex_base.specs.declared.engine.Engine.TheVariants as engine;
 ghost use Rattle.context.specs.Contexts.{IsOn};
-ghost use Rattle.crew.specs.Crews.{HaveWorked, HasWorked, most_ends};
+ghost use Rattle.crew.specs.Crews.{HaveWorked, most_ends};
 
 use access_record::Bus;
 use context::HartContext;
@@ -52,8 +52,8 @@ impl Worker {
 
     // Gives a hart back, where it has one.
     pub(crate) fn give_back(&mut self) -> Option<HartContext>
-        ensures given { MatchOption result (self.old.contexts ≡ []) (λ c. self.old.contexts ≡ self.new.contexts ++ c ∷ []) }
-        ensures none { result ≡ None → self.new ≡ self.old }
+        ensures given { self.old.contexts ≡ self.new.contexts ++ option_to_list result }
+        ensures none { result ≡ None → self.new.contexts ≡ [] }
         ensures engine { self.new.engine ≡ self.old.engine }
         ensures room { self.new.room ≡ self.old.room }
     {
@@ -70,8 +70,10 @@ impl Worker {
         ensures room { self.new.room ≡ self.old.room }
         ensures bus { B.run bus.new ≡ B.run bus.old }
     {
-        for place in 0..self.contexts.len() {
-            run_one(&mut self.contexts[place], bus);
+        match self.engine {
+            Engine::Pipe => run_pipe(&mut self.contexts, bus),
+            Engine::Kernel => run_kernel(&mut self.contexts, bus),
+            Engine::Host => run_host(&mut self.contexts, bus),
         }
     }
 
@@ -84,15 +86,41 @@ impl Worker {
     }
 }
 
-// Runs a hart in its engine.
-fn run_one<B: Bus>(context: &mut HartContext, bus: &mut B)
-    requires on { IsOn (B.run bus.old) context.old }
-    ensures worked { HasWorked (B.run bus.old) (most_ends context.old.engine) context.old context.new }
+// Runs the harts of a pipe, one after another.
+fn run_pipe<B: Bus>(contexts: &mut Vec<HartContext>, bus: &mut B)
+    requires on { All (λ c. IsOn (B.run bus.old) c) contexts.old.items }
+    requires here { All (λ c. c.engine ≡ engine.Pipe) contexts.old.items }
+    ensures worked { HaveWorked (B.run bus.old) 16 contexts.old.items contexts.new.items }
+    ensures room { vec_capacity contexts.new ≡ vec_capacity contexts.old }
     ensures bus { B.run bus.new ≡ B.run bus.old }
 {
-    match context.engine() {
-        Engine::Pipe => context.run(bus, PIPE_ENDS),
-        Engine::Kernel => Kernel::run_in_place(context, bus),
-        Engine::Host => HostSim::run_in_place(context, bus),
+    for place in 0..contexts.len() {
+        contexts[place].run(bus, PIPE_ENDS);
+    }
+}
+
+// Runs the harts of a kernel, one after another.
+fn run_kernel<B: Bus>(contexts: &mut Vec<HartContext>, bus: &mut B)
+    requires on { All (λ c. IsOn (B.run bus.old) c) contexts.old.items }
+    requires here { All (λ c. c.engine ≡ engine.Kernel) contexts.old.items }
+    ensures worked { HaveWorked (B.run bus.old) 64 contexts.old.items contexts.new.items }
+    ensures room { vec_capacity contexts.new ≡ vec_capacity contexts.old }
+    ensures bus { B.run bus.new ≡ B.run bus.old }
+{
+    for place in 0..contexts.len() {
+        Kernel::run_in_place(&mut contexts[place], bus);
+    }
+}
+
+// Runs the harts of the host, one after another.
+fn run_host<B: Bus>(contexts: &mut Vec<HartContext>, bus: &mut B)
+    requires on { All (λ c. IsOn (B.run bus.old) c) contexts.old.items }
+    requires here { All (λ c. c.engine ≡ engine.Host) contexts.old.items }
+    ensures worked { HaveWorked (B.run bus.old) 64 contexts.old.items contexts.new.items }
+    ensures room { vec_capacity contexts.new ≡ vec_capacity contexts.old }
+    ensures bus { B.run bus.new ≡ B.run bus.old }
+{
+    for place in 0..contexts.len() {
+        HostSim::run_in_place(&mut contexts[place], bus);
     }
 }
