@@ -24,15 +24,24 @@ use transplant_plan::Plan;
 /// must be spent, by `run`.
 ///
 /// `prepare` takes all memory. `run` takes none and refuses nothing.
+///
+/// Contracts see its crew.
 pub struct Machine<N: RunName> {
     crew: Crew,
     banks: Banks<N>,
     founder: Founder,
     room: EndRoom,
-    ghost runnable: { IsRunnable N.run },
-    ghost crew_is: { IsCrew N.run crew },
-    ghost enrolled: { HasEnrolled N.run founder },
-    ghost spare: { N.run.setup.harts ≡ room.harts },
+}
+
+impl<N: RunName> Model for Machine<N> {
+    ghost use Rattle.crew.specs.Crews as crews;
+    ghost use Rattle.crew.specs.Rooms.{MayPlay};
+
+    ghost Value = { crews.Crew };
+
+    ghost view = { λ m. m.crew };
+
+    ghost invariant = { λ m. MayPlay N.run m.crew m.founder m.room.harts };
 }
 
 impl<N: RunName + Send + Sync> Machine<N> {
@@ -53,7 +62,7 @@ impl<N: RunName + Send + Sync> Machine<N> {
         requires run { IsRunFor bus.run image.now settings plan }
         requires founder { IsFounderOf bus.run founder }
         requires none { founder.harts ≡ [] }
-        ensures plan { IfOk result (λ m. m.crew.plan ≡ plan) }
+        ensures plan { IfOk result (λ m. m.plan ≡ plan) }
     {
         let Ok(room) = Room::<N>::new(alloc, plan, &settings) else {
             abandon(alloc, bus, founder);
@@ -67,7 +76,7 @@ impl<N: RunName + Send + Sync> Machine<N> {
     /// It works in phases. In a phase the workers run beside one another, each its harts; after it a
     /// coordinator wakes harts, hands them over and deals them out. It may wait.
     pub fn run<R: Threads + Wait + Sync, G: Gate>(self, rt: &R, gate: &G) -> Ended
-        ensures { HasPlayed N.run.setup self.crew.plan result }
+        ensures { HasPlayed N.run.setup self.plan result }
     {
         let Machine {
             mut crew,
@@ -104,7 +113,7 @@ fn begin<N: RunName>(
     requires logs { room.parts.logs.items ≡ are_empty settings.now settings.now.harts }
     requires founder { IsFounderOf N.run founder }
     requires none { founder.harts ≡ [] }
-    ensures plan { result.crew.plan ≡ room.plan }
+    ensures plan { result.plan ≡ room.plan }
 {
     let Room {
         harts,

@@ -110,7 +110,7 @@ module _ (run : Run) (plan : Plan) (settings : Settings) where
 lawful_some : (settings : Settings) → is_lawful settings ≡ true → 0 < settings.harts
 lawful_some settings lawful = grind (arith, nat_tests)
 
-lawful_few : (settings : Settings) → is_lawful settings ≡ true → settings.harts ≤ 32
+pub lawful_few : (settings : Settings) → is_lawful settings ≡ true → settings.harts ≤ 32
 lawful_few settings lawful = grind (arith, nat_tests)
 
 first_instruction_at : (setup : Setup) (h : ℕ) → instruction_of setup h [] ≡ instruction_from (start h setup.image.entry)
