@@ -19,6 +19,10 @@ with_resting crew resting = crew_of crew.plan resting crew.workers
 abbrev pub with_workers : Crew → List Berth → Crew
 with_workers crew workers = crew_of crew.plan crew.resting workers
 
+-- 1 where it is this hart
+abbrev counts_as : ℕ → HartId → ℕ
+counts_as hart id = if id.0 == hart then 1 else 0
+
 is_its_hart : (c : Context) → is_hart c.pass.hart.0 c ≡ 1
 is_its_hart c = ap (λ b. if b then 1 else 0) (eq-eqb c.pass.hart.0 c.pass.hart.0 refl)
 
@@ -93,7 +97,7 @@ module _ (run : Run) (crew : Crew) where
         counted = whole.counted;
         workers = whole.workers;
         engines = whole.engines;
-        once = λ h below. omega (arith, whole.once h below, ap (λ (i : HartId). if i.0 == h then 1 else 0) same.hart);
+        once = λ h below. omega (arith, whole.once h below, ap (counts_as h) same.hart);
         all = whole.all;
         hand = record { on = on; plan_is = same.plan ∙ whole.hand.plan_is; below = omega (arith, whole.hand.below, ap (λ (i : HartId). i.0) same.hart) };
       }
@@ -185,7 +189,7 @@ module _ (run : Run) (crew : Crew) where
       inside : (k : ℕ) → k < length new → k < length crew.workers
       inside k below = omega (arith, below, all.counted)
       times_same : (h most : ℕ) (r : Run) (xs ys : List Context) → HaveWorked r most xs ys → times_in h xs ≡ times_in h ys
-      times_same h most r xs ys have = sums_same (is_hart h) xs ys (sym have.counted) (λ k d lt. ap (λ (i : HartId). if i.0 == h then 1 else 0) (sym (have.each k d lt).same.hart))
+      times_same h most r xs ys have = sums_same (is_hart h) xs ys (sym have.counted) (λ k d lt. ap (counts_as h) (sym (have.each k d lt).same.hart))
       still_manned : (old new : Berth) → WorkerHasWorked run old new → IsManned run crew.plan old → IsManned run crew.plan new
       still_manned old new has m =
           let back : (k : ℕ) → k < length new.contexts → k < length old.contexts = λ k below. omega (arith, below, has.worked.counted) in
