@@ -56,7 +56,3 @@ changed_more {A} R i old new x y so_far lt is step =
         subst At (sym same) (subst (λ (z : A). R z (slice_index_or (set new i y) i d)) (was d) (subst (R x) (sym (get_or-set_same new i y d there)) step))
     by k d below inside (no ne) =
         subst (R (slice_index_or old k d)) (sym (get_or-set_other new i k y d ne)) (so_far.before k d (omega (arith, below, ne)) inside)
-
--- all of them
-pub changed_all : {A : Type 0} (R : A → A → Type 0) (i : ℕ) (old new : List A) → HasChanged R i old new → length old ≤ i → (k : ℕ) (d : A) → k < length old → R (slice_index_or old k d) (slice_index_or new k d)
-changed_all R i old new so_far all k d below = so_far.before k d (omega (arith, all, below)) below

@@ -7,7 +7,6 @@ use Rattle.access_record.specs.Histories.{History}
 use Rattle.context.specs.Contexts.{Context, IsOn, IsSame, Steps, Stays, ends_by}
 use Rattle.context.specs.Runs.{Runs, HasRun}
 use Rattle.crew.specs.Crews.{Berth, HasWorked, HaveWorked, WorkerHasWorked, AllHaveWorked}
-use Rattle.crew.proofs.Counting.{HasChanged, changed_all}
 
 few_ends : (happened : What) → ends_by happened ≤ 1
 few_ends (what.Acc access reply) = omega arith
@@ -28,10 +27,8 @@ run_worked run most before after old new ran engine same on =
     let left : old.left - most ≤ new.left = runs_leave run (old.left - most) before after ran.events old new ran.runs (omega arith) in
     record { same = same; on = on; engine = engine; ends = omega (arith, left) }
 
--- each of a list
-pub all_worked : (run : Run) (most place : ℕ) (old new : List Context) → HasChanged (HasWorked run most) place old new → length old ≤ place → HaveWorked run most old new
-all_worked run most place old new so_far all = record { counted = so_far.counted; each = changed_all (HasWorked run most) place old new so_far all }
-
--- each of the workers
-pub workers_worked : (run : Run) (number : ℕ) (old new : List Berth) → HasChanged (WorkerHasWorked run) number old new → length old ≤ number → AllHaveWorked run old new
-workers_worked run number old new so_far all = record { counted = so_far.counted; each = changed_all (WorkerHasWorked run) number old new so_far all }
+-- what a call left of a worker is what stands there
+pub same_worked : (run : Run) (old new was is : Berth) → was ≡ old → is ≡ new → WorkerHasWorked run was is → WorkerHasWorked run old new
+same_worked run old new was is first last worked =
+    let Worked : Berth × Berth → Type 0 = λ p. WorkerHasWorked run p.0 p.1 in
+    subst Worked (λ i. (first i, last i)) worked

@@ -115,7 +115,6 @@ impl Crew {
     fn take(&mut self, hart: usize) -> Option<HartContext>
         requires crew { (run : Run) × IsCrew run self.old }
         ensures crew { (run : Run) → IsCrew run self.old → IsCrewBut run result self.new }
-        ensures on { IfSome result (λ c. (run : Run) → IsCrew run self.old → IsOn run c) }
         ensures plan { self.new.plan ≡ self.old.plan }
     {
         if hart >= self.resting.len() {

@@ -6,7 +6,7 @@ pub returns-in_default-clause-crew : goal.returns-in_default-clause-crew
 returns-in_default-clause-crew g c = c.in_default.ensures.crew (g.B.Bus.run c.args.bus.now) c.requires.crew
 
 pub make_ready-requires : goal.make_ready-requires
-make_ready-requires g c = record { on = c.in-Some.ensures.on (g.B.Bus.run c.args.bus.now) c.requires.crew }
+make_ready-requires g c = record { on = (c.in-Some.ensures.crew (g.B.Bus.run c.args.bus.now) c.requires.crew).hand.on }
 
 pub send-requires-clause-crew : goal.send-requires-clause-crew
 send-requires-clause-crew g c =
