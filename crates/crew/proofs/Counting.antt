@@ -49,6 +49,7 @@ changed_more {A} R i old new x y so_far lt is step =
   where
     was : (d : A) → x ≡ slice_index_or old i d
     was d = is ∙ (so_far.after i x (omega arith) ∙ get_or_default old i x d lt)
+
     by : (k : ℕ) (d : A) → k < i + 1 → k < length old → Dec (k ≡ i) → R (slice_index_or old k d) (slice_index_or (set new i y) k d)
     by k d below inside (yes same) =
         let At : ℕ → Type 0 = λ n. R (slice_index_or old n d) (slice_index_or (set new i y) n d) in

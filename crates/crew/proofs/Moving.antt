@@ -136,11 +136,11 @@ module _ (run : Run) (crew : Crew) where
         let each : All (λ d. IsOfCrew run crew.plan d) v.contexts = subst (λ (l : List Context). All (λ d. IsOfCrew run crew.plan d) l) (sym contexts) (All-push (λ d. IsOfCrew run crew.plan d) w.contexts c m.each whole.hand) in
         let in_engine : All (λ d. d.engine ≡ w.engine) v.contexts = subst (λ (l : List Context). All (λ d. d.engine ≡ w.engine) l) (sym contexts) (All-push (λ d. d.engine ≡ w.engine) w.contexts c m.here here) in
         replaced v (Some c) None whole
-            (record { each = each; here = subst (λ (e : Engine). All (λ d. d.engine ≡ e) v.contexts) (sym engine) in_engine; room = omega (arith, m.room, room) })
-            engine
-            (λ h. omega (arith, ap (times_in h) contexts, sum_by_push (is_hart h) w.contexts c))
-            (omega (arith, ap (λ (l : List Context). length l) contexts, length_push w.contexts c))
-            tt
+        (record { each = each; here = subst (λ (e : Engine). All (λ d. d.engine ≡ e) v.contexts) (sym engine) in_engine; room = omega (arith, m.room, room) })
+        engine
+        (λ h. omega (arith, ap (times_in h) contexts, sum_by_push (is_hart h) w.contexts c))
+        (omega (arith, ap (λ (l : List Context). length l) contexts, length_push w.contexts c))
+        tt
 
     -- what the worker gives back, if anything, is in hand
     pub gave : (given : Option Context) (v : Berth) → IsCrew run crew → w.contexts ≡ v.contexts ++ option_to_list given → v.engine ≡ w.engine → v.room ≡ w.room → IsCrewBut run given (with_workers crew (set crew.workers number v))
@@ -149,11 +149,11 @@ module _ (run : Run) (crew : Crew) where
         let each = All-pop (λ c. IsOfCrew run crew.plan c) w.contexts v.contexts given contexts m.each in
         let in_engine = All-pop (λ c. c.engine ≡ w.engine) w.contexts v.contexts given contexts m.here in
         replaced v None given whole
-            (record { each = each.0; here = subst (λ (e : Engine). All (λ d. d.engine ≡ e) v.contexts) (sym engine) in_engine.0; room = omega (arith, m.room, room) })
-            engine
-            (λ h. omega (arith, ap (times_in h) contexts, sum_by-append (is_hart h) v.contexts (option_to_list given), times_given h given))
-            (omega (arith, ap (λ (l : List Context). length l) contexts, length-append v.contexts (option_to_list given), count_given given))
-            each.1
+        (record { each = each.0; here = subst (λ (e : Engine). All (λ d. d.engine ≡ e) v.contexts) (sym engine) in_engine.0; room = omega (arith, m.room, room) })
+        engine
+        (λ h. omega (arith, ap (times_in h) contexts, sum_by-append (is_hart h) v.contexts (option_to_list given), times_given h given))
+        (omega (arith, ap (λ (l : List Context). length l) contexts, length-append v.contexts (option_to_list given), count_given given))
+        each.1
 
     -- how that changes what the workers hold
     pub takes_back : (given : Option Context) (v : Berth) → w.contexts ≡ v.contexts ++ option_to_list given → (given ≡ None → v.contexts ≡ []) → TakesBack number given crew.workers (set crew.workers number v)
@@ -188,8 +188,10 @@ module _ (run : Run) (crew : Crew) where
     where
       inside : (k : ℕ) → k < length new → k < length crew.workers
       inside k below = omega (arith, below, all.counted)
+
       times_same : (h most : ℕ) (r : Run) (xs ys : List Context) → HaveWorked r most xs ys → times_in h xs ≡ times_in h ys
       times_same h most r xs ys have = sums_same (is_hart h) xs ys (sym have.counted) (λ k d lt. ap (counts_as h) (sym (have.each k d lt).same.hart))
+
       still_manned : (old new : Berth) → WorkerHasWorked run old new → IsManned run crew.plan old → IsManned run crew.plan new
       still_manned old new has m =
           let back : (k : ℕ) → k < length new.contexts → k < length old.contexts = λ k below. omega (arith, below, has.worked.counted) in

@@ -81,7 +81,10 @@ impl Worker {
     pub(crate) fn discard(self)
         requires none { self.contexts ≡ [] }
     {
-        let Worker { engine: _, contexts } = self;
+        let Worker {
+            engine: _,
+            contexts,
+        } = self;
         contexts.destroy_empty();
     }
 }

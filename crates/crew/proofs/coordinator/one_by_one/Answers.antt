@@ -18,6 +18,6 @@ loop-number-preserved g c =
     let lt : number < length c.args.workers.now = search rules in
     let Worked : Berth → Type 0 = λ w. WorkerHasWorked g.N.RunName.run w c.work.new.worker in (
       changed_more (WorkerHasWorked g.N.RunName.run) number c.args.workers.now c.loop-number.workers c.index-workers-number.result c.work.new.worker
-        c.loop-number.invariant.0 lt c.index-workers-number.is (subst Worked (sym c.index-workers-number.is) c.work.ensures),
+          c.loop-number.invariant.0 lt c.index-workers-number.is (subst Worked (sym c.index-workers-number.is) c.work.ensures),
       search rules,
     )

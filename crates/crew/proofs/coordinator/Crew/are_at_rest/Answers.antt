@@ -14,6 +14,6 @@ loop-place-preserved c = λ k other below.
     let same : items ≡ c.args.self.now.resting = c.deref-place-items.ensures.value ∙ ap (λ (x : Crew). x.resting) c.self.view_is in
     let rests : c.is_at_rest_at.result ≡ true = search rules in
     let here : Rests i = λ d.
-        let is = get_or_read items i c.place-item.result c.loop-place-test.true c.place-item.is d ∙ ap (λ (l : List (Option Context)). slice_index_or l i d) same in
-        subst (IsAtRestAt c.args.devices.now) is (c.is_at_rest_at.ensures rests) in
+    let is = get_or_read items i c.place-item.result c.loop-place-test.true c.place-item.is d ∙ ap (λ (l : List (Option Context)). slice_index_or l i d) same in
+    subst (IsAtRestAt c.args.devices.now) is (c.is_at_rest_at.ensures rests) in
     below_more Rests i (λ n lt d. c.loop-place.invariant n d lt) here k below other

@@ -13,6 +13,6 @@ loop-number-preserved c =
       c.empty.ensures.plan ∙ so_far.1,
       empties.counted ∙ so_far.2,
       (λ k other below. below_more IsEmpty number
-        (λ n lt d. ap (λ (w : Berth). w.contexts) (empties.others n d (λ same. absurd (omega (arith, lt, same)))) ∙ so_far.3 n d lt)
-        empties.none k below other),
+          (λ n lt d. ap (λ (w : Berth). w.contexts) (empties.others n d (λ same. absurd (omega (arith, lt, same)))) ∙ so_far.3 n d lt)
+          empties.none k below other),
     )

@@ -12,7 +12,7 @@ returns-clause-crew g c =
     let run = g.N.RunName.run in
     let At : Crew → Type 0 = λ x. IsCrew run x in
     let crew : IsCrew run c.match-next.self = elim c.match-next.branch [
-      in-None w ↦ subst At (sym w.self-is) c.loop.invariant.0
+      | in-None w ↦ subst At (sym w.self-is) c.loop.invariant.0
       | in-Some+then-not-deal_over w ↦ subst At (sym w.self-is) w.deal_over.ensures.crew
     ] in
     c.collect-2.ensures.crew run crew
