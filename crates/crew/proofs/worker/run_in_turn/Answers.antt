@@ -1,7 +1,6 @@
 -- One hart more has worked.
-use Rattle.std.proofs.Common.{rules, arith, ◌≡◌, ◌<◌, length, ap, ◌∙◌, subst}
+use Rattle.std.proofs.Common.{rules, ◌<◌, length, subst}
 use Rattle.access_record.specs.Buses.{Run}
-use Rattle.context.specs.Contexts.{Context}
 use Rattle.crew.specs.Crews.{HasWorked, most_ends}
 use Rattle.crew.proofs.Counting.{changed_more}
 use Rattle.crew.proofs.worker.run_in_turn.Goals as goal

@@ -1,5 +1,5 @@
 -- A run makes at most its engine's ends.
-use Rattle.std.proofs.Common.{◌≡◌, sym, subst, ◌∙◌}
+use Rattle.std.proofs.Common.{sym, subst, ◌∙◌}
 use Rattle.flex_base.specs.declared.engine.Engine.{Engine}
 use Rattle.crew.specs.Crews.{HasWorked, most_ends}
 use Rattle.crew.proofs.Working.{run_worked}

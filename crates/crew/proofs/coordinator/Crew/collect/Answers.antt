@@ -1,5 +1,5 @@
 -- One worker more holds no hart.
-use Rattle.std.proofs.Common.{arith, ◌≡◌, ◌<◌, ℕ, [], ap, ◌∙◌, below_more, slice_index_or}
+use Rattle.std.proofs.Common.{arith, ◌≡◌, ℕ, [], ap, ◌∙◌, below_more, slice_index_or}
 use Rattle.crew.specs.Crews.{Berth}
 use Rattle.crew.proofs.coordinator.Crew.collect.Goals as goal
 

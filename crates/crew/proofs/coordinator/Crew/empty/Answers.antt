@@ -1,5 +1,5 @@
 -- What the worker gives back is laid at its place.
-use Rattle.std.proofs.Common.{◌≡◌, length, List, ap, ◌∙◌, slice_index_or}
+use Rattle.std.proofs.Common.{length, List, ap, ◌∙◌, slice_index_or}
 use Rattle.crew.specs.Crews.{Berth}
 use Rattle.crew.proofs.coordinator.Crew.empty.Goals as goal
 

@@ -1,5 +1,5 @@
 -- The workers may run, and afterwards it is the same crew.
-use Rattle.std.proofs.Common.{arith, ◌≡◌, List, sym, subst}
+use Rattle.std.proofs.Common.{arith, List, sym, subst}
 use Rattle.std.proofs.lemmas.List.{with_items_is}
 use Rattle.crew.specs.Crews.{Berth, Crew, crew_of, IsCrew, AllHaveWorked}
 use Rattle.crew.proofs.Moving.{worked}

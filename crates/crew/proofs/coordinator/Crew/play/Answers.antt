@@ -1,5 +1,5 @@
 -- Each call leaves a crew.
-use Rattle.std.proofs.Common.{◌≡◌, sym, subst}
+use Rattle.std.proofs.Common.{sym, subst}
 use Rattle.crew.specs.Crews.{Crew, IsCrew}
 use Rattle.crew.proofs.coordinator.Crew.play.Goals as goal
 use Rattle.crew.proofs.coordinator.Crew.play.Goals.{in-None, in-Some+then-not-deal_over}

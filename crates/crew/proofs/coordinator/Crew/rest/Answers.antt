@@ -1,5 +1,5 @@
 -- Nothing rests at the place, and then what was in hand does.
-use Rattle.std.proofs.Common.{◌≡◌, ℕ, set, sym, ap, subst, ◌∙◌, slice_index_or, Option, Some, None}
+use Rattle.std.proofs.Common.{◌≡◌, ℕ, set, sym, ap, subst, ◌∙◌, slice_index_or, Option, Some}
 use Rattle.flex_base.specs.declared.hart.HartId.{HartId}
 use Rattle.context.specs.Contexts.{Context}
 use Rattle.crew.specs.Crews.{Crew, crew_of, IsCrewBut, IsCrew}

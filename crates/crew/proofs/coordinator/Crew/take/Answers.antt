@@ -1,5 +1,5 @@
 -- What rests at the place is in hand.
-use Rattle.std.proofs.Common.{rules, ◌≡◌, ◌<◌, length, set, sym, subst, Option, None}
+use Rattle.std.proofs.Common.{rules, ◌<◌, length, set, sym, subst, Option}
 use Rattle.context.specs.Contexts.{Context}
 use Rattle.crew.specs.Crews.{Crew, crew_of, IsCrewBut, IsCrew}
 use Rattle.crew.proofs.Moving.{took}

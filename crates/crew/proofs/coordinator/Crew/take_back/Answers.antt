@@ -1,6 +1,6 @@
 -- What the worker gives back, if anything, is in hand.
-use Rattle.std.proofs.Common.{◌≡◌, ◌<◌, length, set, sym, subst}
-use Rattle.crew.specs.Crews.{Crew, crew_of, IsCrewBut, IsCrew, TakesBack}
+use Rattle.std.proofs.Common.{◌<◌, length, set, sym, subst}
+use Rattle.crew.specs.Crews.{Crew, crew_of, IsCrew, TakesBack}
 use Rattle.crew.proofs.Moving.{gave, takes_back}
 use Rattle.crew.proofs.coordinator.Crew.take_back.Goals as goal
 
