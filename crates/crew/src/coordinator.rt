@@ -2,7 +2,7 @@ ghost use Rattle.std.specs.Prelude.{◌≡◌, ◌<◌, true, All, length, IfSom
 ghost use Rattle.access_record.specs.Buses.{Run};
 ghost use Rattle.context.specs.Contexts.{IsOn, IsSame};
 ghost use Rattle.crew.specs.Crews.{IsCrew, IsCrewBut, AreHome, Empties, TakesBack, MayWork, WorkerHasWorked, AllHaveWorked, count_by, engine_of_worker};
-ghost use Rattle.crew.specs.Played.{IsAtRest, AreAtRest};
+ghost use Rattle.crew.specs.Played.{IsAtRest, IsAtRestAt, AreAtRest};
 
 use crate::worker::Worker;
 use access_record::Bus;
@@ -115,7 +115,6 @@ impl Crew {
     fn take(&mut self, hart: usize) -> Option<HartContext>
         requires crew { (run : Run) × IsCrew run self.old }
         ensures crew { (run : Run) → IsCrew run self.old → IsCrewBut run result self.new }
-        ensures on { IfSome result (λ c. (run : Run) → IsCrew run self.old → IsOn run c) }
         ensures plan { self.new.plan ≡ self.old.plan }
     {
         if hart >= self.resting.len() {
@@ -166,10 +165,8 @@ impl Crew {
         ensures { result ≡ true → AreAtRest devices.now self.now }
     {
         for place in &self.resting {
-            if let Some(context) = place {
-                if !is_at_rest(context, devices) {
-                    return false;
-                }
+            if !is_at_rest_at(place, devices) {
+                return false;
             }
         }
         true
@@ -324,6 +321,16 @@ fn hand_over<B: Bus>(context: &mut HartContext, bus: &mut B) -> Engine
         context.move_to(bus, engine);
     }
     engine
+}
+
+// Whether the hart at a place, if any, is at rest.
+fn is_at_rest_at(place: &Option<HartContext>, devices: &Devices) -> bool
+    ensures { result ≡ true → IsAtRestAt devices.now place.now }
+{
+    match place {
+        Some(context) => is_at_rest(context, devices),
+        None => true,
+    }
 }
 
 // Whether the hart is over, or waits and these devices don't wake it.

@@ -1,7 +1,7 @@
 ghost use Rattle.std.specs.Prelude.{◌≡◌, ◌++◌, ◌∷◌, ◌<◌, ◌≤◌, [], IfOk, All, length, option_to_list, None, vec_capacity};
 ghost use Rattle.flex_base.specs.declared.engine.Engine.TheVariants as engine;
 ghost use Rattle.context.specs.Contexts.{IsOn};
-ghost use Rattle.crew.specs.Crews.{HaveWorked, most_ends};
+ghost use Rattle.crew.specs.Crews.{HaveWorked, HasWorked, most_ends};
 
 use access_record::Bus;
 use context::HartContext;
@@ -72,8 +72,8 @@ impl Worker {
     {
         match self.engine {
             Engine::Pipe => run_pipe(&mut self.contexts, bus),
-            Engine::Kernel => run_kernel(&mut self.contexts, bus),
-            Engine::Host => run_host(&mut self.contexts, bus),
+            Engine::Kernel => run_in_turn(Engine::Kernel, &mut self.contexts, bus),
+            Engine::Host => run_in_turn(Engine::Host, &mut self.contexts, bus),
         }
     }
 
@@ -81,12 +81,15 @@ impl Worker {
     pub(crate) fn discard(self)
         requires none { self.contexts ≡ [] }
     {
-        let Worker { engine: _, contexts } = self;
+        let Worker {
+            engine: _,
+            contexts,
+        } = self;
         contexts.destroy_empty();
     }
 }
 
-// Runs the harts of a pipe, one after another.
+// Runs the harts of a pipe.
 fn run_pipe<B: Bus>(contexts: &mut Vec<HartContext>, bus: &mut B)
     requires on { All (λ c. IsOn (B.run bus.old) c) contexts.old.items }
     requires here { All (λ c. c.engine ≡ engine.Pipe) contexts.old.items }
@@ -94,33 +97,32 @@ fn run_pipe<B: Bus>(contexts: &mut Vec<HartContext>, bus: &mut B)
     ensures room { vec_capacity contexts.new ≡ vec_capacity contexts.old }
     ensures bus { B.run bus.new ≡ B.run bus.old }
 {
-    for place in 0..contexts.len() {
-        contexts[place].run(bus, PIPE_ENDS);
-    }
+    run_in_turn(Engine::Pipe, contexts, bus);
 }
 
-// Runs the harts of a kernel, one after another.
-fn run_kernel<B: Bus>(contexts: &mut Vec<HartContext>, bus: &mut B)
+// Runs harts in this engine, one after another.
+fn run_in_turn<B: Bus>(engine: Engine, contexts: &mut Vec<HartContext>, bus: &mut B)
     requires on { All (λ c. IsOn (B.run bus.old) c) contexts.old.items }
-    requires here { All (λ c. c.engine ≡ engine.Kernel) contexts.old.items }
-    ensures worked { HaveWorked (B.run bus.old) 64 contexts.old.items contexts.new.items }
+    requires here { All (λ c. c.engine ≡ engine) contexts.old.items }
+    ensures worked { HaveWorked (B.run bus.old) (most_ends engine) contexts.old.items contexts.new.items }
     ensures room { vec_capacity contexts.new ≡ vec_capacity contexts.old }
     ensures bus { B.run bus.new ≡ B.run bus.old }
 {
     for place in 0..contexts.len() {
-        Kernel::run_in_place(&mut contexts[place], bus);
+        run_one(engine, &mut contexts[place], bus);
     }
 }
 
-// Runs the harts of the host, one after another.
-fn run_host<B: Bus>(contexts: &mut Vec<HartContext>, bus: &mut B)
-    requires on { All (λ c. IsOn (B.run bus.old) c) contexts.old.items }
-    requires here { All (λ c. c.engine ≡ engine.Host) contexts.old.items }
-    ensures worked { HaveWorked (B.run bus.old) 64 contexts.old.items contexts.new.items }
-    ensures room { vec_capacity contexts.new ≡ vec_capacity contexts.old }
+// Runs a hart in its engine.
+fn run_one<B: Bus>(engine: Engine, context: &mut HartContext, bus: &mut B)
+    requires on { IsOn (B.run bus.old) context.old }
+    requires here { context.old.engine ≡ engine }
+    ensures worked { HasWorked (B.run bus.old) (most_ends engine) context.old context.new }
     ensures bus { B.run bus.new ≡ B.run bus.old }
 {
-    for place in 0..contexts.len() {
-        HostSim::run_in_place(&mut contexts[place], bus);
+    match engine {
+        Engine::Pipe => context.run(bus, PIPE_ENDS),
+        Engine::Kernel => Kernel::run_in_place(context, bus),
+        Engine::Host => HostSim::run_in_place(context, bus),
     }
 }
