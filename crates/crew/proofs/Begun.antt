@@ -7,26 +7,18 @@ use Rattle.std.proofs.lemmas.List.Elements.{All-push}
 use Rattle.std.proofs.lemmas.List.Sums.{sum_by-cons, sum_by-le}
 use Rattle.flex_base.specs.declared.settings.Settings.{Settings}
 use Rattle.access_record.specs.Passes.{PassOfHart, Enrolment}
-use Rattle.access_record.specs.Buses.{Run, ram_banks}
-use Rattle.mem_lines.proofs.Dealing.{some_banks}
-use Rattle.mem_banks.specs.Locked.{HasBanks}
+use Rattle.access_record.specs.Buses.{Run}
+use Rattle.devices.specs.View.{DevicesView}
 use Rattle.mem_banks.specs.Plain.{numbers_below}
-use Rattle.mem_banks.specs.End.{IsFounderOf}
+use Rattle.mem_banks.specs.End.{Memory, IsMemoryOf, IsFounderOf}
 use Rattle.transplant_plan.specs.declared.plan.Plan.{Plan}
 use Rattle.context.specs.Contexts.{Context}
 use Rattle.solo.specs.Solo.{settings_of}
 use Rattle.solo.specs.Begun.{IsBegun, AreBegun}
 use Rattle.solo.proofs.Beginning.{lawful_few}
-use Rattle.crew.specs.Crews.{Berth, Crew, crew_of, is_hart, times_at, times_in, times_resting, times_among, filled, count_among, count_of, IsOfCrew, IsResting, IsManned, IsCrew, AreVacant, count_by, engine_of_worker}
-use Rattle.crew.specs.Played.{IsRunnable, HasEnrolled}
+use Rattle.crew.specs.Crews.{Berth, Crew, crew_of, is_hart, times_at, times_in, times_resting, times_among, filled, count_among, count_of, IsOfCrew, IsResting, IsManned, IsCrew, AreHome, AreVacant, count_by, engine_of_worker}
+use Rattle.crew.specs.Played.{IsRunnable, HasEnrolled, AreAtRest, IsOver}
 use Rattle.crew.specs.Rooms.{MayPlay}
-
--- a run that may be run has banks
-pub has_banks : (run : Run) → IsRunnable run → HasBanks run
-has_banks run runnable = record {
-  run_is = record { some = runnable.whole; few = lawful_few (settings_of run.setup) runnable.lawful };
-  some = some_banks (ram_banks run) runnable.counted;
-}
 
 -- contexts of harts that are numbered from this one on
 abbrev pub AreNumbered : ℕ → List Context → Type 0
@@ -192,3 +184,15 @@ one_more plan room count workers more w pushed first engine none within =
 
 pub all_of_them : (plan : Plan) (room count : ℕ) (workers : List Berth) → count ≡ count_by plan → AreFirst plan room count workers → AreVacant plan room workers
 all_of_them plan room count workers all first = record { counted = first.counted ∙ all; none = first.none; rooms = first.rooms; engines = first.engines }
+
+-- A machine that may play is over once its crew is home and at rest.
+pub comes_over : (run : Run) (before crew : Crew) (founder : Enrolment) (room : ℕ) (memory : Memory) (devices : DevicesView) → MayPlay run before founder room
+    → IsCrew run crew → AreHome crew → AreAtRest devices crew → devices ≡ memory.devices → IsMemoryOf run memory → IsOver run crew memory founder
+comes_over run before crew founder room memory devices may is_crew home rest same of_run = record {
+  runnable = may.runnable;
+  is_crew = is_crew;
+  home = home;
+  rest = subst (λ (d : DevicesView). AreAtRest d crew) same rest;
+  of_run = of_run;
+  enrolled = may.enrolled;
+}

@@ -7,3 +7,4 @@ mod WholeRun
 mod Counting
 mod Working
 mod Moving
+mod Begun
