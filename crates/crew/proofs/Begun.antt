@@ -1,23 +1,21 @@
 -- The crew at the beginning of a run: each hart rests at the place of its number, and no worker holds one.
-use Rattle.std.proofs.Common.{◌≡◌, ◌≢◌, inl, inr, ℕ, zero, suc, ◌+◌, ◌<◌, ◌≤◌, true, if◌then◌else◌, List, [], ◌∷◌, ◌++◌, map, length, get_or, All, refl, sym, ap, ◌∙◌, subst, arith, eq-eqb, ne_eqb, Option, None, Some, sum_by}
+use Rattle.std.proofs.Common.{◌≡◌, ◌≢◌, inl, inr, ℕ, suc, ◌+◌, ◌<◌, ◌≤◌, if◌then◌else◌, List, [], ◌∷◌, map, length, All, refl, sym, ap, ◌∙◌, subst, arith, eq-eqb, ne_eqb, Option, Some, sum_by}
 use Rattle.std.specs.Prelude.{slice_index_or}
 use Rattle.std.proofs.lemmas.Bool.{cases_eq}
-use Rattle.std.proofs.lemmas.List.{get_or-map, length-map, length-append, get_or_push, get_or_append_left}
-use Rattle.std.proofs.lemmas.List.Elements.{All-push}
+use Rattle.std.proofs.lemmas.List.{get_or-map, length-map}
 use Rattle.std.proofs.lemmas.List.Sums.{sum_by-cons, sum_by-le}
 use Rattle.flex_base.specs.declared.settings.Settings.{Settings}
 use Rattle.access_record.specs.Passes.{PassOfHart, Enrolment}
 use Rattle.access_record.specs.Buses.{Run}
-use Rattle.devices.specs.View.{DevicesView}
 use Rattle.mem_banks.specs.Plain.{numbers_below}
-use Rattle.mem_banks.specs.End.{Memory, IsMemoryOf, IsFounderOf}
+use Rattle.mem_banks.specs.End.{IsFounderOf}
 use Rattle.transplant_plan.specs.declared.plan.Plan.{Plan}
 use Rattle.context.specs.Contexts.{Context}
 use Rattle.solo.specs.Solo.{settings_of}
 use Rattle.solo.specs.Begun.{IsBegun, AreBegun}
 use Rattle.solo.proofs.Beginning.{lawful_few}
-use Rattle.crew.specs.Crews.{Berth, Crew, crew_of, is_hart, times_at, times_in, times_resting, times_among, filled, count_among, count_of, IsOfCrew, IsResting, IsManned, IsCrew, AreHome, AreVacant, count_by, engine_of_worker}
-use Rattle.crew.specs.Played.{IsRunnable, HasEnrolled, AreAtRest, IsOver}
+use Rattle.crew.specs.Crews.{Berth, crew_of, is_hart, times_at, times_in, times_resting, filled, IsResting, IsManned, IsCrew, AreVacant}
+use Rattle.crew.specs.Played.{IsRunnable}
 use Rattle.crew.specs.Rooms.{MayPlay}
 
 -- contexts of harts that are numbered from this one on
@@ -80,8 +78,13 @@ rests P [] place other below each = absurd (omega (arith, below))
 rests P (c ∷ cs) place other below each = subst P (sym (get_or-map (λ (d : Context). Some d) (c ∷ cs) place c other below)) (each c)
 
 -- vacant workers count for nothing
-none_among : (f : Berth → ℕ) (workers : List Berth) → All (λ (w : Berth). f w ≤ 0) workers → sum_by f workers ≡ 0
-none_among f workers none = omega (arith, sum_by-le f 0 workers none)
+none_among : (f : List Context → ℕ) → f [] ≡ 0 → (workers : List Berth) → All (λ (w : Berth). w.contexts ≡ []) workers
+    → sum_by (λ (w : Berth). f w.contexts) workers ≡ 0
+none_among f zero workers none =
+    let low : All (λ (w : Berth). f w.contexts ≤ 0) workers = λ k d below.
+    let is : f (slice_index_or workers k d).contexts ≡ 0 = ap f (none k d below) ∙ zero in
+    omega (arith, is) in
+    omega (arith, sum_by-le (λ (w : Berth). f w.contexts) 0 workers low)
 
 number_is : (run : Run) (plan : Plan) (settings : Settings) (place : ℕ) (c : Context) → IsBegun run plan settings place c → c.pass.hart.0 ≡ place
 number_is run plan settings place c is = ap (λ (p : PassOfHart). p.hart.0) is.pass
@@ -107,22 +110,21 @@ crew_begins run plan settings before after contexts workers runnable harts begun
     let size : length contexts ≡ run.setup.harts = begun.counted ∙ sym harts in
     let places : length (all_resting contexts) ≡ length contexts = length-map contexts (λ (c : Context). Some c) in
     let numbered : AreNumbered 0 contexts = λ place other below.
-        number_is run plan settings place _ (begun.each place other (omega (arith, below, begun.counted))) ∙ omega arith in
-    let no_times = λ (hart : ℕ). none_among (λ (w : Berth). times_in hart w.contexts) workers
-    (λ k d below. let none : times_in hart (slice_index_or workers k d).contexts ≡ 0 = ap (times_in hart) (vacant.none k d below) in omega (arith, none)) in
-    let no_count = none_among (λ (w : Berth). length w.contexts) workers
-    (λ k d below. let none : length (slice_index_or workers k d).contexts ≡ 0 = ap length (vacant.none k d below) in omega (arith, none)) in
+    number_is run plan settings place _ (begun.each place other (omega (arith, below, begun.counted))) ∙ omega arith in
     record {
       places = places ∙ size;
       few = lawful_few (settings_of run.setup) runnable.lawful;
-      resting = λ hart other below. rests (IsResting run plan hart) contexts hart other (omega (arith, below, places))
-      (λ d. of_crew run plan settings hart _ (omega (arith, below, places, size)) (begun.each hart d (omega (arith, below, places, begun.counted))));
+      resting = λ hart other below.
+          rests (IsResting run plan hart) contexts hart other (omega (arith, below, places))
+          (λ d. of_crew run plan settings hart _ (omega (arith, below, places, size)) (begun.each hart d (omega (arith, below, places, begun.counted))));
       counted = vacant.counted;
       workers = λ number other below. vacant_manned run plan settings.harts (slice_index_or workers number other) (vacant.none number other below)
           (omega (arith, harts)) (vacant.rooms number other below);
       engines = vacant.engines;
-      once = λ hart below. omega (arith, once_each hart 0 contexts numbered (omega arith) (omega (arith, below, size)), no_times hart);
-      all = omega (arith, all_filled contexts, no_count, size);
+      once = λ hart below.
+          let resting = once_each hart 0 contexts numbered (omega arith) (omega (arith, below, size)) in
+          omega (arith, resting, none_among (times_in hart) refl workers vacant.none);
+      all = omega (arith, all_filled contexts, none_among length refl workers vacant.none, size);
       hand = tt;
     }
 
@@ -142,57 +144,3 @@ may_play run plan settings before after contexts resting workers room runnable h
       };
       room_is = harts ∙ sym room_is;
     }
-
--- The workers of a plan, one after another.
-
--- so many of them, the first ones
-pub record AreFirst (plan : Plan) (room count : ℕ) (workers : List Berth) : Type 0 where
-  pub counted : length workers ≡ count
-  pub none : All (λ (w : Berth). w.contexts ≡ []) workers
-  pub rooms : All (λ (w : Berth). room ≤ w.room) workers
-  pub engines : (number : ℕ) (other : Berth) → number < length workers → (slice_index_or workers number other).engine ≡ engine_of_worker plan number
-
-pub none_yet : (plan : Plan) (room : ℕ) (workers : List Berth) → workers ≡ [] → AreFirst plan room 0 workers
-none_yet plan room workers none =
-    let count : length workers ≡ 0 = ap length none in
-    record {
-      counted = count;
-      none = λ k d below. absurd (omega (arith, below, count));
-      rooms = λ k d below. absurd (omega (arith, below, count));
-      engines = λ k d below. absurd (omega (arith, below, count));
-    }
-
-pub one_more : (plan : Plan) (room count : ℕ) (workers more : List Berth) (w : Berth) → more ≡ workers ++ w ∷ [] → AreFirst plan room count workers
-    → w.engine ≡ engine_of_worker plan count → w.contexts ≡ [] → room ≤ w.room → AreFirst plan room (count + 1) more
-one_more plan room count workers more w pushed first engine none within =
-    let size : length more ≡ count + 1 = ap length pushed ∙ length-append workers (w ∷ []) ∙ ap (λ n. n + 1) first.counted in
-    let Engines : List Berth → Type 0 = λ ws. (number : ℕ) (other : Berth) → number < length ws → (slice_index_or ws number other).engine ≡ engine_of_worker plan number in
-    record {
-      counted = size;
-      none = subst (λ (ws : List Berth). All (λ (w : Berth). w.contexts ≡ []) ws) (sym pushed) (All-push (λ (w : Berth). w.contexts ≡ []) workers w first.none none);
-      rooms = subst (λ (ws : List Berth). All (λ (w : Berth). room ≤ w.room) ws) (sym pushed) (All-push (λ (w : Berth). room ≤ w.room) workers w first.rooms within);
-      engines = λ number other below.
-          let before : (place : ℕ) (x : Berth) → place < length workers → (slice_index_or workers place x).engine ≡ engine_of_worker plan place = first.engines in
-          subst (λ (ws : List Berth). (slice_index_or ws number other).engine ≡ engine_of_worker plan number) (sym pushed)
-              (elim (cases_eq (length workers) number) [
-                | inl last ↦ ap (λ (v : Berth). v.engine) (get_or_push workers w other number last) ∙ engine ∙ ap (engine_of_worker plan) (sym first.counted ∙ last)
-                | inr earlier ↦
-                    let inside : number < length workers = omega (arith, below, size, first.counted, earlier) in
-                    ap (λ (v : Berth). v.engine) (get_or_append_left workers (w ∷ []) other number inside) ∙ before number other inside
-              ]);
-    }
-
-pub all_of_them : (plan : Plan) (room count : ℕ) (workers : List Berth) → count ≡ count_by plan → AreFirst plan room count workers → AreVacant plan room workers
-all_of_them plan room count workers all first = record { counted = first.counted ∙ all; none = first.none; rooms = first.rooms; engines = first.engines }
-
--- A machine that may play is over once its crew is home and at rest.
-pub comes_over : (run : Run) (before crew : Crew) (founder : Enrolment) (room : ℕ) (memory : Memory) (devices : DevicesView) → MayPlay run before founder room
-    → IsCrew run crew → AreHome crew → AreAtRest devices crew → devices ≡ memory.devices → IsMemoryOf run memory → IsOver run crew memory founder
-comes_over run before crew founder room memory devices may is_crew home rest same of_run = record {
-  runnable = may.runnable;
-  is_crew = is_crew;
-  home = home;
-  rest = subst (λ (d : DevicesView). AreAtRest d crew) same rest;
-  of_run = of_run;
-  enrolled = may.enrolled;
-}

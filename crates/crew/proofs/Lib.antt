@@ -8,3 +8,5 @@ mod Counting
 mod Working
 mod Moving
 mod Begun
+mod Manning
+mod Over

@@ -1,6 +1,6 @@
 use Rattle.std.proofs.Common.{rules, arith, ◌≡◌, ◌∙◌}
 use Rattle.crew.specs.Crews.{count_by}
-use Rattle.crew.proofs.Begun.{none_yet, one_more, all_of_them}
+use Rattle.crew.proofs.Manning.{none_yet, one_more, all_of_them}
 use Rattle.crew.proofs.room.all_workers.Goals as goal
 
 pub loop-number-init : goal.loop-number-init

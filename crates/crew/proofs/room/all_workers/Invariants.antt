@@ -2,7 +2,7 @@
 use Rattle.std.proofs.Common.{◌≡◌, ◌≤◌}
 use Rattle.std.specs.Prelude.{vec_capacity}
 use Rattle.crew.specs.Crews.{count_by}
-use Rattle.crew.proofs.Begun.{AreFirst}
+use Rattle.crew.proofs.Manning.{AreFirst}
 use Rattle.crew.proofs.room.all_workers.Given as goal
 
 abbrev pub invariant-loop-number : goal.invariant-loop-number

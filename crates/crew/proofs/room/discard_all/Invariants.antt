@@ -1,4 +1,6 @@
-use Rattle.std.proofs.Common.{◌≡◌, [], All}
+-- None of those that are left holds a hart.
+use Rattle.std.proofs.Common.{◌≡◌, []}
+use Rattle.std.specs.List.{All}
 use Rattle.crew.specs.Crews.{Berth}
 use Rattle.crew.proofs.room.discard_all.Given as goal
 

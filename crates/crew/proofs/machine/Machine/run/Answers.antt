@@ -4,7 +4,7 @@ use Rattle.transplant_plan.specs.declared.plan.Plan.{Plan}
 use Rattle.mem_banks.specs.End.{Memory}
 use Rattle.crew.specs.Crews.{Crew}
 use Rattle.crew.specs.Played.{IsOver, HasPlayed}
-use Rattle.crew.proofs.Begun.{comes_over}
+use Rattle.crew.proofs.Over.{comes_over}
 use Rattle.crew.proofs.machine.Machine.run.Goals as goal
 
 pub loop-init : goal.loop-init
