@@ -4,3 +4,8 @@ mod Numbered
 mod Parts
 mod Steps
 mod WholeRun
+mod PlacedLogs
+mod Gathered
+mod Closing
+mod AtRest
+mod Left

@@ -6,5 +6,5 @@ use Rattle.transplant_plan.specs.Split.{Plan}
 use Rattle.crew.specs.LogsOfRun.{AreLogsOfRun, IsRunOf, journal_of}
 
 pub logs_run : (run : Run) (plan : Plan) (n : ℕ) (harts banks : ℕ → List LogEntry) → AreLogsOfRun run plan n harts banks
-    → IsRunOf run plan harts banks (journal_of run n harts)
+    → IsRunOf run plan n harts banks (journal_of run n harts)
 logs_run run plan n harts banks are = ?

@@ -1,5 +1,5 @@
 -- The harts of a crew: those at rest with its coordinator, and those that its workers hold.
-use Rattle.std.specs.Prelude.{◌≡◌, ◌≢◌, ⊥, ℕ, ◌+◌, ◌<◌, ◌≤◌, ◌==◌, nat_lt, if◌then◌else◌, List, [], All, length, slice_index_or, Option, None, Some}
+use Rattle.std.specs.Prelude.{◌≡◌, ◌≢◌, ℕ, ◌+◌, ◌<◌, ◌≤◌, ◌==◌, nat_lt, if◌then◌else◌, List, [], All, length, slice_index_or, Option, None, Some}
 use Rattle.std.specs.List.{sum_by}
 use Rattle.flex_base.specs.Setup.{Setup}
 use Rattle.flex_base.specs.declared.engine.Engine.{Engine}

@@ -9,13 +9,13 @@ mod law_on_banks;
 mod law_on_lists;
 mod machine;
 mod room;
-mod run;
+mod running;
 mod worker;
 
 pub use law_on_banks::{byte_of_bank, reply_of_bank};
 pub use law_on_lists::{logs_make_run, merged_parts};
 pub use machine::Machine;
-pub use run::run;
+pub use running::run;
 
 #[cfg(test)]
 mod tests;
