@@ -3,4 +3,8 @@ mod Ascending
 mod Numbered
 mod Parts
 mod Steps
+mod Going
+mod Entries
+mod ObeyingMerged
+mod EndState
 mod WholeRun

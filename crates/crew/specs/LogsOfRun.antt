@@ -1,5 +1,6 @@
 -- The logs of harts and banks of one run, each right by itself; and the run that they are when they are merged.
-use Rattle.std.specs.Prelude.{◌≡◌, ℕ, ◌<◌, List, [], ◌∷◌}
+use Rattle.std.specs.Prelude.{◌≡◌, ℕ, ◌<◌, List, [], ◌∷◌, length}
+use Rattle.std.specs.List.{All}
 use Rattle.flex_base.specs.Setup.{Setup}
 use Rattle.flex_base.specs.FlatMemory.{byte}
 use Rattle.flex_base.specs.Banks.{bank_of, accesses_of, IsBanked}
@@ -52,10 +53,13 @@ pub record IsStateOf (run : Run) (harts banks : ℕ → List LogEntry) (u : Mach
       ≡ byte run.setup.image (accesses_of (events_of (banks (bank_of (ram_banks run) a)))) a
   pub devices : accesses_of (events_of (banks (ram_banks run))) ≡ u.devices
 
--- the journal is a legal run by this plan, its part of each hart is the hart's log, and the state that it leads to is that of
--- the logs
-pub record IsRunOf (run : Run) (plan : Plan) (harts banks : ℕ → List LogEntry) (journal : List Event) : Type 0 where
+-- The journal is a legal run by this plan. It has n events, each of a hart of the run; its part of each hart is the hart's log.
+-- The state that it leads to is that of the logs
+pub record IsRunOf (run : Run) (plan : Plan) (n : ℕ) (harts banks : ℕ → List LogEntry) (journal : List Event) : Type 0 where
   pub legal : IsLegal run.setup journal
   pub obeys : Obeys plan journal
+  pub counted : length journal ≡ n
+  pub of_run : All (λ (e : Event). e.hart.0 < run.setup.harts) journal
   pub parts : (hart : ℕ) → of_hart hart journal ≡ events_of (harts hart)
+  pub part_counted : (hart : ℕ) → length (of_hart hart journal) ≡ length (harts hart)
   pub state : IsStateOf run harts banks (reach run.setup (order_of journal))

@@ -19,5 +19,5 @@ pub fn merged_parts()
 /// leads.
 #[tactic(auto, using(crate::proofs::WholeRun::logs_run))]
 pub fn logs_make_run()
-    ensures { (run : Run) (plan : Plan) (n : ℕ) (harts banks : ℕ → List LogEntry) → AreLogsOfRun run plan n harts banks → IsRunOf run plan harts banks (journal_of run n harts) }
+    ensures { (run : Run) (plan : Plan) (n : ℕ) (harts banks : ℕ → List LogEntry) → AreLogsOfRun run plan n harts banks → IsRunOf run plan n harts banks (journal_of run n harts) }
 {}
