@@ -179,6 +179,34 @@ module _ (run : Run) (some : 0 < ram_banks run) where
 
       -- Where it leads, with the rest.
 
+      leads_own : leads_to run.setup (instruction_at v h) (events_of (of_hart h es)) ≡ leads_to run.setup (instruction_at u h) (events_of (of_hart h (e ∷ es)))
+      leads_own =
+          ap (λ (i : Instruction). leads_to run.setup i (events_of (of_hart h es))) made.goes.own
+          ∙ sym (leads-cons run.setup (instruction_at u h) e.event (events_of (of_hart h es)))
+          ∙ sym (ap (λ (l : List LogEntry). leads_to run.setup (instruction_at u h) (events_of l)) (hart_cons h e es true own))
+
+      leads_on : (hart : ℕ) → leads_to run.setup (instruction_at v hart) (events_of (of_hart hart es)) ≡ leads_to run.setup (instruction_at u hart) (events_of (of_hart hart (e ∷ es)))
+      leads_on hart = elim (cases_eq h hart) [
+        | inl same ↦
+            let Of : ℕ → Type 0 = λ k. leads_to run.setup (instruction_at v k) (events_of (of_hart k es)) ≡ leads_to run.setup (instruction_at u k) (events_of (of_hart k (e ∷ es))) in
+            subst Of same leads_own
+        | inr other ↦
+            ap (λ (i : Instruction). leads_to run.setup i (events_of (of_hart hart es))) (made.goes.others hart (λ same. other (sym same)))
+            ∙ sym (ap (λ (l : List LogEntry). leads_to run.setup (instruction_at u hart) (events_of l)) (hart_cons hart e es false (ne_eqb h hart other)))
+      ]
+
+      done_on : (bank : ℕ) → done_in (ram_banks run) bank v ++ accesses_of (events_of (on_bank bank es)) ≡ done bank ++ accesses_of (events_of (on_bank bank (e ∷ es)))
+      done_on bank =
+          let part = accesses_of (events_of (on_bank bank es)) in
+          elim (cases_Bool (names_bank bank e)) [
+            | inl names ↦
+                ap (λ (ds : List Done). ds ++ part) (banks_by bank true names) ∙ append_assoc (done bank) (access_in h w) part
+                ∙ sym (ap (λ (l : List LogEntry). done bank ++ accesses_of (events_of l)) (bank_cons bank e es true names))
+            | inr not_it ↦
+                ap (λ (ds : List Done). ds ++ part) (banks_by bank false not_it ∙ append-nil (done bank))
+                ∙ sym (ap (λ (l : List LogEntry). done bank ++ accesses_of (events_of l)) (bank_cons bank e es false not_it))
+          ]
+
       module _ (z : Machine) (rest : Lead run v z es) where
         all_events : z.events ≡ u.events ++ strip (events_of (e ∷ es))
         all_events =
@@ -186,30 +214,10 @@ module _ (run : Run) (some : 0 < ram_banks run) where
             ∙ ap (λ (ms : List Made). u.events ++ ms) (sym (strip_cons e.event (events_of es)))
 
         all_instructions : (hart : ℕ) → hart < run.setup.harts → instruction_at z hart ≡ leads_to run.setup (instruction_at u hart) (events_of (of_hart hart (e ∷ es)))
-        all_instructions hart below = rest.instructions hart below ∙ elim (cases_eq h hart) [
-          | inl same ↦
-              let Of : ℕ → Type 0 = λ k. leads_to run.setup (instruction_at v k) (events_of (of_hart k es)) ≡ leads_to run.setup (instruction_at u k) (events_of (of_hart k (e ∷ es))) in
-              let own_leads : Of h =
-              ap (λ (i : Instruction). leads_to run.setup i (events_of (of_hart h es))) made.goes.own
-              ∙ sym (leads-cons run.setup (instruction_at u h) e.event (events_of (of_hart h es)))
-              ∙ sym (ap (λ (l : List LogEntry). leads_to run.setup (instruction_at u h) (events_of l)) (hart_cons h e es true own)) in
-              subst Of same own_leads
-          | inr other ↦
-              ap (λ (i : Instruction). leads_to run.setup i (events_of (of_hart hart es))) (made.goes.others hart (λ same. other (sym same)))
-              ∙ sym (ap (λ (l : List LogEntry). leads_to run.setup (instruction_at u hart) (events_of l)) (hart_cons hart e es false (ne_eqb h hart other)))
-        ]
+        all_instructions hart below = rest.instructions hart below ∙ leads_on hart
 
         all_banks : (bank : ℕ) → done_in (ram_banks run) bank z ≡ done bank ++ accesses_of (events_of (on_bank bank (e ∷ es)))
-        all_banks bank =
-            let part = accesses_of (events_of (on_bank bank es)) in
-            rest.banks bank ∙ elim (cases_Bool (names_bank bank e)) [
-              | inl names ↦
-                  ap (λ (ds : List Done). ds ++ part) (banks_by bank true names) ∙ append_assoc (done bank) (access_in h w) part
-                  ∙ sym (ap (λ (l : List LogEntry). done bank ++ accesses_of (events_of l)) (bank_cons bank e es true names))
-              | inr not_it ↦
-                  ap (λ (ds : List Done). ds ++ part) (banks_by bank false not_it ∙ append-nil (done bank))
-                  ∙ sym (ap (λ (l : List LogEntry). done bank ++ accesses_of (events_of l)) (bank_cons bank e es false not_it))
-            ]
+        all_banks bank = rest.banks bank ∙ done_on bank
 
         lead_on : Lead run u z (e ∷ es)
         lead_on = record { events = all_events; placed = rest.placed; instructions = all_instructions; banks = all_banks }
