@@ -1,15 +1,15 @@
 -- Merged logs are a run.
-use Rattle.std.proofs.Common.{◌≡◌, ℕ, ◌<◌, List, [], ◌++◌, length, map, refl, sym, ap, ◌∙◌, subst}
+use Rattle.std.proofs.Common.{◌≡◌, ℕ, List, length, refl, sym, ap, ◌∙◌, subst}
 use Rattle.std.specs.List.{range_with_len}
 use Rattle.std.proofs.lemmas.List.{length-map}
-use Rattle.flex_base.specs.Unsplit.{Machine, Made, begin, reach, reach_from, unsplit}
+use Rattle.flex_base.specs.Unsplit.{Machine, begin, reach, reach_from}
 use Rattle.flex_base.specs.Journal.{IsLegal, numbers_of, order_of, strip}
 use Rattle.flex_base.specs.Merging.{merge}
 use Rattle.flex_base.specs.declared.event.Event.{Event}
 use Rattle.access_record.specs.declared.entry.LogEntry.{LogEntry}
 use Rattle.access_record.specs.Logs.{of_hart, on_bank}
 use Rattle.access_record.specs.Buses.{Run, events_of}
-use Rattle.transplant_plan.specs.Split.{Plan, Obeys}
+use Rattle.transplant_plan.specs.Split.{Plan}
 use Rattle.journal.specs.Merged as journals
 use Rattle.solo.proofs.Parts.{all_of_harts}
 use Rattle.crew.specs.Merging.{entries_of, merged}
