@@ -3,6 +3,10 @@ mod Ascending
 mod Numbered
 mod Parts
 mod Steps
+mod Going
+mod Entries
+mod ObeyingMerged
+mod EndState
 mod WholeRun
 mod PlacedLogs
 mod Gathered
