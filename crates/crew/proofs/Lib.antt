@@ -1,0 +1,6 @@
+mod BankReplies
+mod Ascending
+mod Numbered
+mod Parts
+mod Steps
+mod WholeRun
