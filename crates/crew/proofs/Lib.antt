@@ -4,3 +4,6 @@ mod Numbered
 mod Parts
 mod Steps
 mod WholeRun
+mod Addresses
+mod Placing
+mod PlacedLogs
