@@ -10,7 +10,6 @@ ghost use Rattle.crew.specs.LogsOfRun.{ArePlacedIn};
 
 /// Each access of a list of events that follows a hart's story stands where its kind may stand,
 /// aligned in RAM or at a device register, if only the harts begin at a multiple of 4.
-#[tactic(auto, using(crate::proofs::PlacedLogs::follows_placed, crate::proofs::PlacedLogs::log_placed))]
 pub fn accesses_stand()
     ensures events { (setup : Setup) (hart : ℕ) (events : List Event) → is_multiple setup.image.entry 4 ≡ true → Follows setup hart events → AreEventsPlaced setup events }
     ensures log { (setup : Setup) (hart : ℕ) (log : List LogEntry) → is_multiple setup.image.entry 4 ≡ true → Follows setup hart (events_of log) → ArePlacedIn setup log }
