@@ -31,12 +31,14 @@ IsAligned a = (is_multiple a.pc 4 ≡ true) × AreAligned a.csrs
 abbrev Four : ℕ → Type 0
 Four n = is_multiple n 4 ≡ true
 
-set_same : (stores : List ℕ) (place value : ℕ) → Four value → Four (slice_index stores place) → Four (slice_index (slice_set stores place value) place)
+set_same : (stores : List ℕ) (place value : ℕ) → Four value → Four (slice_index stores place)
+    → Four (slice_index (slice_set stores place value) place)
 set_same [] place value new old = old
 set_same (x ∷ stores) zero value new old = new
 set_same (x ∷ stores) (suc place) value new old = set_same stores place value new old
 
-set_at : (stores : List ℕ) (place value j : ℕ) → (j ≡ place → Four value) → Four (slice_index stores j) → Four (slice_index (slice_set stores place value) j)
+set_at : (stores : List ℕ) (place value j : ℕ) → (j ≡ place → Four value) → Four (slice_index stores j)
+    → Four (slice_index (slice_set stores place value) j)
 set_at stores place value j new old = elim (cases_eq j place) [
   | inl same ↦
       let At : ℕ → Type 0 = λ p. Four (slice_index (slice_set stores p value) j) in
@@ -52,7 +54,8 @@ set_aligned stores place value are to_m to_s = record {
 }
 
 -- a store to which no return leads
-other_aligned : (stores : List ℕ) (place value : ℕ) → AreAligned stores → mepc ≢ place → sepc ≢ place → AreAligned (slice_set stores place value)
+other_aligned : (stores : List ℕ) (place value : ℕ) → AreAligned stores → mepc ≢ place → sepc ≢ place
+    → AreAligned (slice_set stores place value)
 other_aligned stores place value are no_m no_s = set_aligned stores place value are (λ e. absurd (no_m e)) (λ e. absurd (no_s e))
 
 -- any store, by a multiple of 4
@@ -109,7 +112,8 @@ values_aligned stores epc why told pc cause tval are four of_why of_told =
     let second = other_aligned (slice_set stores epc pc) why cause first of_why.0 of_why.1 in
     other_aligned (slice_set (slice_set stores epc pc) why cause) told tval second of_told.0 of_told.1
 
-trap_to_m_leads : (stores : List ℕ) (pc : ℕ) (from : Mode) (cause tval : ℕ) → AreAligned stores → Four pc → LeadsOn (trap_to_m stores pc from cause tval)
+trap_to_m_leads : (stores : List ℕ) (pc : ℕ) (from : Mode) (cause tval : ℕ) → AreAligned stores → Four pc
+    → LeadsOn (trap_to_m stores pc from cause tval)
 trap_to_m_leads stores pc from cause tval are four = (
   handler_aligned (slice_index stores mtvec) cause,
   status_aligned (with_trap_values stores mepc mcause mtval pc cause tval) (mstatus_after_trap_to_m (slice_index stores mstatus) from)
@@ -118,7 +122,8 @@ trap_to_m_leads stores pc from cause tval are four = (
       (λ e. absurd (omega (arith, e)), λ e. absurd (omega (arith, e)))),
 )
 
-trap_to_s_leads : (stores : List ℕ) (pc : ℕ) (from : Mode) (cause tval : ℕ) → AreAligned stores → Four pc → LeadsOn (trap_to_s stores pc from cause tval)
+trap_to_s_leads : (stores : List ℕ) (pc : ℕ) (from : Mode) (cause tval : ℕ) → AreAligned stores → Four pc
+    → LeadsOn (trap_to_s stores pc from cause tval)
 trap_to_s_leads stores pc from cause tval are four = (
   handler_aligned (slice_index stores stvec) cause,
   status_aligned (with_trap_values stores sepc scause stval pc cause tval) (mstatus_after_trap_to_s (slice_index stores mstatus) from)
@@ -131,7 +136,8 @@ trap_by : (b : Bool) (s m : Transfer) → LeadsOn s → LeadsOn m → LeadsOn (i
 trap_by true s m first second = first
 trap_by false s m first second = second
 
-pub trap_leads : (stores : List ℕ) (pc : ℕ) (from : Mode) (cause tval : ℕ) → is_multiple pc 4 ≡ true → AreAligned stores → LeadsOn (trap stores pc from cause tval)
+pub trap_leads : (stores : List ℕ) (pc : ℕ) (from : Mode) (cause tval : ℕ) → is_multiple pc 4 ≡ true → AreAligned stores
+    → LeadsOn (trap stores pc from cause tval)
 unfolding trap
 trap_leads stores pc from cause tval four are =
     trap_by (goes_to_s stores from cause) (trap_to_s stores pc from cause tval) (trap_to_m stores pc from cause tval)
@@ -188,7 +194,8 @@ store_by stores place bits value false is takes are =
     (λ e. let one : is_return mepc ≡ false = ap is_return e ∙ is in absurd cc)
     (λ e. let one : is_return sepc ≡ false = ap is_return e ∙ is in absurd cc)
 
-source_aligned : (stores : List ℕ) (s : Source) (bits value : ℕ) → Takes s bits → AreAligned stores → AreAligned (after_source_write stores s bits value)
+source_aligned : (stores : List ℕ) (s : Source) (bits value : ℕ) → Takes s bits → AreAligned stores
+    → AreAligned (after_source_write stores s bits value)
 source_aligned stores (Store place) bits value takes are = store_by stores place bits value (is_return place) refl takes are
 source_aligned stores Pending bits value takes are =
     other_aligned stores mip (with_bits (slice_index stores mip) bits value) are (λ e. absurd (omega (arith, e))) (λ e. absurd (omega (arith, e)))
@@ -205,7 +212,8 @@ written_by : (stores : List ℕ) (value : ℕ) (b : Bool) (r : Row) (other : Opt
 written_by stores value true r other first second = first
 written_by stores value false r other first second = second
 
-found_aligned : (stores : List ℕ) (value : ℕ) (test : Row → Bool) (xs : List Row) → AreAligned stores → AllTake stores value xs → IsWritten stores value (find test xs)
+found_aligned : (stores : List ℕ) (value : ℕ) (test : Row → Bool) (xs : List Row) → AreAligned stores → AllTake stores value xs
+    → IsWritten stores value (find test xs)
 found_aligned stores value test [] are all = tt
 found_aligned stores value test (r ∷ xs) are all =
     written_by stores value (test r) r (find test xs) (source_aligned stores r.source (r.writes stores value) value all.0 are)

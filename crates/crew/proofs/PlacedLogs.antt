@@ -1,5 +1,5 @@
 -- Whatever happens to a hart that follows its story stands where it may.
-use Rattle.std.proofs.Common.{◌≡◌, ◌==◌, ℕ, Bool, true, false, ◌&&◌, if◌then◌else◌, List, [], ◌∷◌, Option, Some, refl, sym, subst}
+use Rattle.std.proofs.Common.{◌≡◌, ◌==◌, ℕ, Bool, true, false, ◌&&◌, if◌then◌else◌, List, [], ◌∷◌, Some, refl, sym, subst}
 use Rattle.std.specs.List.{list_all}
 use Rattle.flex_base.specs.Word.{is_multiple}
 use Rattle.flex_base.specs.Place.{in_ram}
@@ -8,7 +8,7 @@ use Rattle.flex_base.specs.Forms.{IsPlaced}
 use Rattle.flex_base.specs.Setup.{Setup}
 use Rattle.flex_base.specs.State.{State}
 use Rattle.flex_base.specs.FlatMemory.{reply_with}
-use Rattle.flex_base.specs.StoryTree.{Want, Asks, Ends, Story, Says, Closes, StaysOver, Parks, want, after_one, after_park}
+use Rattle.flex_base.specs.StoryTree.{Want, Ends, Story, Says, Closes, StaysOver, Parks, want, after_one}
 use Rattle.flex_base.specs.Story.{story}
 use Rattle.flex_base.specs.Unsplit.{Instruction, instruction_after}
 use Rattle.flex_base.specs.Following.{next_access, first_instruction, MayDo, instruction_then, FollowsFrom, Follows}

@@ -1,5 +1,5 @@
--- Whatever the story of an instruction asks stands where its kind may stand, and an instruction that follows begins at a multiple of 4.
-use Rattle.std.proofs.Common.{◌≡◌, ℕ, zero, suc, ◌+◌, ◌-◌, ◌*◌, ◌%◌, Bool, true, false, not, ◌&&◌, ◌||◌, ◌==◌, if◌then◌else◌, List, [], ◌∷◌, ◌++◌, Option, None, Some, inl, inr, refl, sym, subst, arith, eq-eqb, slice_index}
+-- Whatever the story of an instruction asks stands where its kind may stand, and the next one begins at a multiple of 4.
+use Rattle.std.proofs.Common.{◌≡◌, ℕ, zero, suc, ◌+◌, ◌-◌, ◌*◌, ◌%◌, Bool, true, false, not, ◌||◌, ◌==◌, if◌then◌else◌, List, [], ◌∷◌, ◌++◌, Option, None, Some, inl, inr, refl, sym, subst, arith, eq-eqb, slice_index}
 use Rattle.std.specs.List.{list_any}
 use Rattle.std.proofs.lemmas.Bool.{or_cases, eqb-true}
 use Rattle.flex_base.specs.Word.{wrap, is_multiple}
@@ -10,17 +10,16 @@ use Rattle.flex_base.specs.Traps.{Transfer, trap, mret, sret, count, takeable}
 use Rattle.flex_base.specs.Zicsr.{CSR_TIME, reads_csr, writes_csr, csr_operand, csr_result, may_use_csr, is_pending_csr, CSR_MCYCLE, CSR_MINSTRET, csr_value, csrs_with}
 use Rattle.flex_base.specs.Decoding.{decoded}
 use Rattle.flex_base.specs.FlatMemory.{reservation_set, is_reserved}
-use Rattle.flex_base.specs.Forms.{IsWidth, IsAtomicWidth, IsAlignedRam, IsPlaced}
+use Rattle.flex_base.specs.Forms.{IsWidth, IsAtomicWidth, IsPlaced}
 use Rattle.flex_base.specs.Setup.{Setup}
 use Rattle.flex_base.specs.State.{State, reg}
 use Rattle.flex_base.specs.Translation.{is_canonical, is_leaf, frame_of, page_of, faults, leaf_at, index_at, follows, walk_from, walk, root_of, address_in, kept}
 use Rattle.flex_base.specs.StoryTree.{Story, Says, Closes, StaysOver, Parks}
-use Rattle.flex_base.specs.Ends.{jumps, ends, computes, passes, computes_device, passes_device, traps, traps_illegal, returns, concludes}
-use Rattle.flex_base.specs.Translating.{is_translated, may_use, with_leaf, page_faults, reads_entry, uses, arrives, walks, looks_up, translates}
+use Rattle.flex_base.specs.Ends.{jumps, ends, computes, passes, traps, traps_illegal, returns, concludes}
+use Rattle.flex_base.specs.Translating.{is_translated, may_use, page_faults, reads_entry, uses, arrives, walks, looks_up, translates}
 use Rattle.flex_base.specs.Story.{story, even, pulses, after_pulse, begins, interrupted_by, fetches, fetches_at, works, branches, is_taken, supervises, is_machine, closes_csr, updates_csr, asks_csr, uses_csr, fences_memory, at_place, has_pending, ends_wait, after_wait, waits, reaches, in_ram_at, loads_at, stores_at, loads_reserved_at, stores_conditional_at, modifies_at, is_tick}
 use Rattle.flex_base.specs.declared.access.Access.TheVariants as acc
 use Rattle.flex_base.specs.declared.access.Reply.{Reply}
-use Rattle.flex_base.specs.declared.class.Class.{Class}
 use Rattle.flex_base.specs.declared.class.Class.TheVariants as class
 use Rattle.flex_base.specs.declared.operation.CsrOp.{CsrOp}
 use Rattle.flex_base.specs.declared.operation.Op.{Op}
@@ -115,7 +114,8 @@ tested : (setup : Setup) (b : Bool) (s t : Story) → (b ≡ true → Stands set
 tested setup true s t first second = first refl
 tested setup false s t first second = second
 
-placed : (setup : Setup) (p : Place) (access device fault : Story) → (p ≡ place.Ram → Stands setup access) → (p ≡ place.Device → Stands setup device)
+placed : (setup : Setup) (p : Place) (access device fault : Story) → (p ≡ place.Ram → Stands setup access)
+    → (p ≡ place.Device → Stands setup device)
     → Stands setup fault → Stands setup (at_place p access device fault)
 placed setup place.Ram access device fault first second third = first refl
 placed setup place.Device access device fault first second third = second refl
@@ -159,8 +159,11 @@ module _ (setup : Setup) (a : State) (held : IsAligned a) where
         let onward : Reply → Story = λ reply. walks setup.ram a k va next left (λ entries. ahead (reply.value ∷ entries)) in
         arrives_stand (ahead []) (reads_entry setup.ram a k va onward) (are []) (λ address entry.
         tested setup (in_ram setup.ram address 8) (Says (acc.Pte address) onward) (traps a (access_fault k) va)
-        (λ inside. (record { aligned = entry; in_ram = inside }, λ reply.
-        walks_stand left (λ entries. ahead (reply.value ∷ entries)) (λ entries. are (reply.value ∷ entries))))
+        (λ inside. (
+          record { aligned = entry; in_ram = inside },
+          λ reply.
+              walks_stand left (λ entries. ahead (reply.value ∷ entries)) (λ entries. are (reply.value ∷ entries)),
+        ))
         (traps_stand (access_fault k) va))
 
     looks_up_stand : (found : Option Leaf) → Stands setup (looks_up setup.ram a k va next found)
@@ -183,13 +186,15 @@ module _ (setup : Setup) (a : State) (held : IsAligned a) where
       (λ whole. translates_stand k width va access wide whole stands) (traps_stand (misaligned k) va)
 
   at_place_stands : (leaves : List Leaf) (cause va address width : ℕ) (access device : Story)
-      → (in_ram setup.ram address width ≡ true → Stands setup access) → (place_of setup.harts setup.ram address width ≡ place.Device → Stands setup device)
+      → (in_ram setup.ram address width ≡ true → Stands setup access)
+      → (place_of setup.harts setup.ram address width ≡ place.Device → Stands setup device)
       → Stands setup (at_place (place_of setup.harts setup.ram address width) access device (traps (record a { leaves = leaves }) cause va))
   at_place_stands leaves cause va address width access device first second =
       placed setup (place_of setup.harts setup.ram address width) access device (traps (record a { leaves = leaves }) cause va)
       (λ ram. first (in_ram-placed setup.harts setup.ram address width ram)) second (traps_stand cause va)
 
-  in_ram_stands : (k : Kind) (leaves : List Leaf) (width va address : ℕ) (access : Story) → (in_ram setup.ram address width ≡ true → Stands setup access)
+  in_ram_stands : (k : Kind) (leaves : List Leaf) (width va address : ℕ) (access : Story)
+      → (in_ram setup.ram address width ≡ true → Stands setup access)
       → Stands setup (in_ram_at setup (record a { leaves = leaves }) k width va address access)
   in_ram_stands k leaves width va address access stands =
       tested setup (in_ram setup.ram address width) access (traps (record a { leaves = leaves }) (access_fault k) va)
@@ -204,12 +209,16 @@ module _ (setup : Setup) (a : State) (held : IsAligned a) where
   branches_stand taken target = either setup taken (jumps a target 0) (passes a class.Jump) (jumps_stand target 0) at_next
 
   -- whatever interrupt lines it has by then
-  updates_csr_stands : (lines : ℕ) (does : CsrOp) (rd rs1 number old : ℕ) → Stands setup (updates_csr (record a { lines = lines }) does rd rs1 number old)
+  updates_csr_stands : (lines : ℕ) (does : CsrOp) (rd rs1 number old : ℕ)
+      → Stands setup (updates_csr (record a { lines = lines }) does rd rs1 number old)
   updates_csr_stands lines does rd rs1 number old =
       let b : State = record a { lines = lines } in
       let value = csr_result does old (csr_operand does a.x rs1) in
-      either setup (writes_csr does rs1) (closes_csr b number rd old value) (computes b class.Csr rd old)
-      (at_next.0, count_aligned (csrs_with a number value) (not (number == CSR_MCYCLE)) (not (number == CSR_MINSTRET)) (csrs_with_aligned a number value held.1))
+      either setup (writes_csr does rs1) (closes_csr b number rd old value) (computes b class.Csr rd old) (
+        at_next.0,
+        count_aligned (csrs_with a number value) (not (number == CSR_MCYCLE)) (not (number == CSR_MINSTRET))
+            (csrs_with_aligned a number value held.1),
+      )
       at_next
 
   asks_csr_stands : (does : CsrOp) (rd rs1 number : ℕ) → Stands setup (asks_csr a does rd rs1 number)
@@ -239,12 +248,12 @@ module _ (setup : Setup) (a : State) (held : IsAligned a) where
       either setup (has_pending a.csrs) _ _
       (tt, λ reply. either setup reply.stop StaysOver (ends_wait a reply.lines) tt at_next) (tt, after_wait_stands)
 
-  conditional_stands : (leaves : List Leaf) (rd address width value : ℕ) → IsPlaced setup.harts setup.ram (acc.Sc address width value)
-      → Stands setup (if is_reserved a.reservation (reservation_set address) then Says (acc.Sc address width value) (λ reply. concludes (record a { leaves = leaves }) rd reply.value)
+  -- whether or not it is within the hart's reservation
+  conditional_stands : (leaves : List Leaf) (rd address width value : ℕ) (b : Bool) → IsPlaced setup.harts setup.ram (acc.Sc address width value)
+      → Stands setup (if b then Says (acc.Sc address width value) (λ reply. concludes (record a { leaves = leaves }) rd reply.value)
       else concludes (record a { leaves = leaves }) rd 1)
-  conditional_stands leaves rd address width value there =
-      either setup (is_reserved a.reservation (reservation_set address)) (Says (acc.Sc address width value) (λ reply. concludes (record a { leaves = leaves }) rd reply.value))
-      (concludes (record a { leaves = leaves }) rd 1) (there, λ reply. at_next) at_next
+  conditional_stands leaves rd address width value true there = (there, λ reply. at_next)
+  conditional_stands leaves rd address width value false there = at_next
 
   works_stand : (word : ℕ) (o : Op) → HasOperands o → Stands setup (works setup a word o)
   works_stand word (op.Lui rd imm) has = at_next
@@ -277,7 +286,8 @@ module _ (setup : Setup) (a : State) (held : IsAligned a) where
       let va = reg a.x rs1 in
       reaches_stand kind.Store width va (stores_conditional_at setup width rd (reg a.x rs2) va) (is_width width has.0) (λ leaves address whole.
       in_ram_stands kind.Store leaves width va address _ (λ inside.
-      conditional_stands leaves rd address width _ (has.0, record { aligned = whole; in_ram = inside })))
+      conditional_stands leaves rd address width _ (is_reserved a.reservation (reservation_set address))
+      (has.0, record { aligned = whole; in_ram = inside })))
   works_stand word (op.Amo does width rd rs1 rs2 aq rl) has =
       let va = reg a.x rs1 in
       reaches_stand kind.Store width va (modifies_at setup does width rd (reg a.x rs2) va) (is_width width has.0) (λ leaves address whole.
@@ -300,10 +310,15 @@ module _ (setup : Setup) (a : State) (held : IsAligned a) where
       either setup (supervises TVM a.csrs a.mode) (fences_memory a) (traps_illegal a word) at_next (traps_stand illegal_instruction word)
   works_stand word (op.Illegal whole) has = traps_stand illegal_instruction whole
 
-fetches_at_stands : (setup : Setup) (a : State) → IsAligned a → (address : ℕ) → is_multiple address 4 ≡ true → Stands setup (fetches_at setup a address)
+fetches_at_stands : (setup : Setup) (a : State) → IsAligned a → (address : ℕ) → is_multiple address 4 ≡ true
+    → Stands setup (fetches_at setup a address)
 fetches_at_stands setup a held address whole =
     tested setup (in_ram setup.ram address 4) (goes_on setup a address) (traps a instruction_access_fault a.pc)
-    (λ inside. (record { aligned = whole; in_ram = inside }, λ reply. works_stand setup a held reply.value (decoded reply.value) (decoded_operands reply.value)))
+    (λ inside. (
+      record { aligned = whole; in_ram = inside },
+      λ reply.
+          works_stand setup a held reply.value (decoded reply.value) (decoded_operands reply.value),
+    ))
     (traps_stand setup a held instruction_access_fault a.pc)
 
 module _ (setup : Setup) (a : State) (held : IsAligned a) where
