@@ -8,6 +8,8 @@ mod Entries
 mod ObeyingMerged
 mod EndState
 mod WholeRun
+mod Addresses
+mod Placing
 mod PlacedLogs
 mod Gathered
 mod Closing

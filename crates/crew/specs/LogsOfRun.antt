@@ -1,5 +1,5 @@
 -- The logs of harts and banks of one run, each right by itself; and the run that they are when they are merged.
-use Rattle.std.specs.Prelude.{◌≡◌, ℕ, ◌<◌, List, [], ◌∷◌, length}
+use Rattle.std.specs.Prelude.{◌≡◌, ℕ, ◌<◌, List, length}
 use Rattle.std.specs.List.{All}
 use Rattle.flex_base.specs.Setup.{Setup}
 use Rattle.flex_base.specs.FlatMemory.{byte}
@@ -15,16 +15,15 @@ use Rattle.access_record.specs.declared.entry.LogEntry.{LogEntry}
 use Rattle.access_record.specs.Logs.{IsRecord}
 use Rattle.access_record.specs.Buses.{Run, ram_banks, events_of, NamePlaces}
 use Rattle.transplant_plan.specs.Split.{Plan, ByPlan, Obeys}
-use Rattle.context.specs.Contexts.{IsPlacedIn}
 use Rattle.context.specs.Obeying.{moves}
 use Rattle.solo.specs.Standing.{of_bank}
 use Rattle.journal.specs.Merged.{of_hart}
 use Rattle.crew.specs.Merging.{entries_of}
+use Rattle.crew.specs.Placing.{AreEventsPlaced}
 
 -- each access of a log stands where its kind may stand
 abbrev pub ArePlacedIn : Setup → List LogEntry → Type 0
-ArePlacedIn setup [] = Unit {0}
-ArePlacedIn setup (e ∷ log) = IsPlacedIn setup e.event.what × ArePlacedIn setup log
+ArePlacedIn setup log = AreEventsPlaced setup (events_of log)
 
 -- The logs meet the rule of the record, which has a log for each hart of the run and at least one bank of RAM. The log of each
 -- hart follows its instructions and is by the plan; its accesses name the bank of their address and stand where they may. The
