@@ -1,19 +1,16 @@
 -- Where each hart is over, or waits and the devices don't wake it, the run has ended.
-use Rattle.std.proofs.Common.{◌≡◌, ℕ, ◌+◌, ◌<◌, Bool, true, false, if◌then◌else◌, List, [], get_or, ◌⊎◌, inl, inr, refl, ap, sym, subst, ◌∙◌, arith}
+use Rattle.std.proofs.Common.{◌≡◌, ℕ, ◌<◌, Bool, true, false, if◌then◌else◌, List, get_or, inl, inr, refl, ap, sym, subst, ◌∙◌}
 use Rattle.std.proofs.lemmas.Bool.{cases_Bool}
-use Rattle.flex_base.specs.Setup.{Setup}
 use Rattle.flex_base.specs.StoryTree.{Want, Asks, Ends, IsOver, IsParked}
 use Rattle.flex_base.specs.FlatMemory.{Done}
 use Rattle.flex_base.specs.Devices.{woken}
 use Rattle.flex_base.specs.Following.{wanted, instruction_of}
 use Rattle.flex_base.specs.Unsplit.{Machine, Instruction, instruction_at, want_of, is_woken_in, next_of, resumes, is_idle, reach, has_ended}
-use Rattle.flex_base.specs.Journal.{order_of}
 use Rattle.flex_base.specs.declared.access.Access.TheVariants as acc
-use Rattle.flex_base.specs.declared.event.Event.{Event}
 use Rattle.flex_base.proofs.EndOfRun.{run_goes_on}
 use Rattle.access_record.specs.declared.entry.LogEntry.{LogEntry}
 use Rattle.access_record.specs.Passes.{logs_of}
-use Rattle.access_record.specs.Buses.{Run, ram_banks, events_of}
+use Rattle.access_record.specs.Buses.{Run, events_of}
 use Rattle.devices.specs.View as devices
 use Rattle.transplant_plan.specs.declared.plan.Plan.{Plan}
 use Rattle.mem_banks.specs.End.{Memory, logs_in}

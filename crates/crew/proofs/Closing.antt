@@ -1,8 +1,7 @@
 -- What is left with the harts and in the memory at the end are the logs of one run.
-use Rattle.std.proofs.Common.{◌≡◌, ℕ, ◌+◌, ◌<◌, zero, suc, true, List, [], length, get_or, ◌⊎◌, inl, inr, refl, ap, sym, subst, ◌∙◌, arith}
+use Rattle.std.proofs.Common.{◌≡◌, ℕ, ◌+◌, ◌<◌, zero, suc, true, List, [], length, get_or, ◌⊎◌, inl, inr, ap, sym, subst, ◌∙◌, arith}
 use Rattle.std.specs.List.{All}
 use Rattle.std.proofs.lemmas.Bool.{cases_eq}
-use Rattle.flex_base.specs.Setup.{Setup}
 use Rattle.flex_base.specs.Banks.{IsBanked}
 use Rattle.flex_base.specs.Following.{Follows}
 use Rattle.flex_base.specs.declared.class.Class.{Class}
@@ -19,7 +18,7 @@ use Rattle.transplant_plan.specs.declared.plan.Plan.{Plan}
 use Rattle.mem_banks.specs.End.{Memory, MaySettle, logs_in, bank_passes}
 use Rattle.context.specs.declared.wants.Wants.{Wants}
 use Rattle.context.specs.declared.wants.Wants.TheVariants as wants
-use Rattle.context.specs.Contexts.{Context, IsContext, IsRunOf, StandsIn, plan_of, wants_in, events_in}
+use Rattle.context.specs.Contexts.{Context, IsContext, StandsIn, plan_of, wants_in, events_in}
 use Rattle.context.specs.Obeying.{IsFor, moves, ObeysSoFar}
 use Rattle.solo.specs.Solo.{settings_of, engines_of}
 use Rattle.solo.proofs.Settling.{passes_of, AreNumbered, log_at, each_pass, all_passes}

@@ -1,9 +1,8 @@
 -- What is left of a run on threads is an end of the unsplit machine.
-use Rattle.std.proofs.Common.{◌≡◌, ℕ, ◌+◌, ◌<◌, ◌≤◌, true, false, List, [], length, map, get_or, refl, ap, sym, subst, ◌∙◌, arith}
+use Rattle.std.proofs.Common.{◌≡◌, ℕ, ◌<◌, true, false, List, length, map, get_or, refl, ap, sym, subst, ◌∙◌, arith}
 use Rattle.std.specs.Prelude.{Option, None, Some, is_some}
 use Rattle.std.specs.List.{All}
 use Rattle.std.proofs.lemmas.List.{get_or-map, length-map}
-use Rattle.flex_base.specs.Setup.{Setup}
 use Rattle.flex_base.specs.FlatMemory.{Done, byte}
 use Rattle.flex_base.specs.Banks.{bank_of, accesses_of}
 use Rattle.flex_base.specs.Devices.{device_stop}
@@ -16,19 +15,17 @@ use Rattle.hart_story.specs.StandsFor.{StandsFor}
 use Rattle.hart_story.specs.declared.hart.Hart.{Hart}
 use Rattle.journal.specs.Log.{Log}
 use Rattle.journal.specs.Merged.{of_hart}
-use Rattle.access_record.specs.declared.entry.LogEntry.{LogEntry}
 use Rattle.access_record.specs.Passes.{PassOfHart, AreRecord, logs_of}
 use Rattle.access_record.specs.Buses.{Run, ram_banks, events_of}
 use Rattle.mem_lines.specs.Bank.{Bank, is_bank_count, IsBank}
 use Rattle.devices.specs.View as devices
 use Rattle.devices.specs.View.{DevicesView}
-use Rattle.transplant_plan.specs.Split as split
 use Rattle.transplant_plan.specs.declared.plan.Plan.{Plan}
 use Rattle.mem_banks.specs.End.{Memory, IsMemoryOf, bank_passes, logs_in}
 use Rattle.mem_banks.specs.declared.ended.Ended.{Ended}
 use Rattle.context.specs.Contexts.{Context, IsContext}
 use Rattle.solo.specs.Solo.{engines_of}
-use Rattle.solo.specs.End.{AreHartLogs, HoldsRam, IsMemoryAt, IsEndOf}
+use Rattle.solo.specs.End.{AreHartLogs, HoldsRam, IsMemoryAt}
 use Rattle.solo.proofs.Settling.{passes_of}
 use Rattle.solo.proofs.Taking.{AllHave}
 use Rattle.crew.specs.Played.{HasPlayed}

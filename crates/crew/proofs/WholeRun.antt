@@ -11,7 +11,7 @@ use Rattle.access_record.specs.Logs.{of_hart, on_bank}
 use Rattle.access_record.specs.Buses.{Run, events_of}
 use Rattle.transplant_plan.specs.Split.{Plan}
 use Rattle.journal.specs.Merged as journals
-use Rattle.solo.proofs.Parts.{all_of_harts}
+use Rattle.solo.proofs.HartParts.{all_of_harts}
 use Rattle.crew.specs.Merging.{entries_of, merged}
 use Rattle.crew.specs.LogsOfRun.{AreLogsOfRun, IsStateOf, IsRunOf, journal_of}
 use Rattle.crew.proofs.Ascending.{In}

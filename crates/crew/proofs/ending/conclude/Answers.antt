@@ -1,9 +1,7 @@
 -- The passes of all contexts close the record, and then the logs are those of one run. All else is read of what is left.
-use Rattle.std.proofs.Common.{rules, arith, ◌≡◌, List, length, vec_len, map, Some, sym, subst, ap, ◌∙◌}
-use Rattle.std.specs.Prelude.{Option}
-use Rattle.access_record.specs.Passes.{PassOfHart}
+use Rattle.std.proofs.Common.{rules, arith, ◌≡◌, length, vec_len, sym, subst, ap, ◌∙◌}
 use Rattle.mem_banks.specs.End.{Memory}
-use Rattle.context.specs.Contexts.{Context, IsContext}
+use Rattle.context.specs.Contexts.{IsContext}
 use Rattle.solo.proofs.Taking.{AllHave}
 use Rattle.crew.specs.Crews.{Crew, AreHome, AreAllResting}
 use Rattle.crew.proofs.Gathered.{all_resting, are_back}
