@@ -3,6 +3,10 @@ mod Ascending
 mod Numbered
 mod Parts
 mod Steps
+mod Going
+mod Entries
+mod ObeyingMerged
+mod EndState
 mod WholeRun
 mod Counting
 mod Working
@@ -10,3 +14,10 @@ mod Moving
 mod Begun
 mod Manning
 mod Over
+mod Addresses
+mod Placing
+mod PlacedLogs
+mod Gathered
+mod Closing
+mod AtRest
+mod Left

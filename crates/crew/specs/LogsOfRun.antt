@@ -1,5 +1,6 @@
 -- The logs of harts and banks of one run, each right by itself; and the run that they are when they are merged.
-use Rattle.std.specs.Prelude.{◌≡◌, ℕ, ◌<◌, List, [], ◌∷◌}
+use Rattle.std.specs.Prelude.{◌≡◌, ℕ, ◌<◌, List, length}
+use Rattle.std.specs.List.{All}
 use Rattle.flex_base.specs.Setup.{Setup}
 use Rattle.flex_base.specs.FlatMemory.{byte}
 use Rattle.flex_base.specs.Banks.{bank_of, accesses_of, IsBanked}
@@ -14,16 +15,15 @@ use Rattle.access_record.specs.declared.entry.LogEntry.{LogEntry}
 use Rattle.access_record.specs.Logs.{IsRecord}
 use Rattle.access_record.specs.Buses.{Run, ram_banks, events_of, NamePlaces}
 use Rattle.transplant_plan.specs.Split.{Plan, ByPlan, Obeys}
-use Rattle.context.specs.Contexts.{IsPlacedIn}
 use Rattle.context.specs.Obeying.{moves}
 use Rattle.solo.specs.Standing.{of_bank}
 use Rattle.journal.specs.Merged.{of_hart}
 use Rattle.crew.specs.Merging.{entries_of}
+use Rattle.crew.specs.Placing.{AreEventsPlaced}
 
 -- each access of a log stands where its kind may stand
 abbrev pub ArePlacedIn : Setup → List LogEntry → Type 0
-ArePlacedIn setup [] = Unit {0}
-ArePlacedIn setup (e ∷ log) = IsPlacedIn setup e.event.what × ArePlacedIn setup log
+ArePlacedIn setup log = AreEventsPlaced setup (events_of log)
 
 -- The logs meet the rule of the record, which has a log for each hart of the run and at least one bank of RAM. The log of each
 -- hart follows its instructions and is by the plan; its accesses name the bank of their address and stand where they may. The
@@ -52,10 +52,13 @@ pub record IsStateOf (run : Run) (harts banks : ℕ → List LogEntry) (u : Mach
       ≡ byte run.setup.image (accesses_of (events_of (banks (bank_of (ram_banks run) a)))) a
   pub devices : accesses_of (events_of (banks (ram_banks run))) ≡ u.devices
 
--- the journal is a legal run by this plan, its part of each hart is the hart's log, and the state that it leads to is that of
--- the logs
-pub record IsRunOf (run : Run) (plan : Plan) (harts banks : ℕ → List LogEntry) (journal : List Event) : Type 0 where
+-- The journal is a legal run by this plan. It has n events, each of a hart of the run; its part of each hart is the hart's log.
+-- The state that it leads to is that of the logs
+pub record IsRunOf (run : Run) (plan : Plan) (n : ℕ) (harts banks : ℕ → List LogEntry) (journal : List Event) : Type 0 where
   pub legal : IsLegal run.setup journal
   pub obeys : Obeys plan journal
+  pub counted : length journal ≡ n
+  pub of_run : All (λ (e : Event). e.hart.0 < run.setup.harts) journal
   pub parts : (hart : ℕ) → of_hart hart journal ≡ events_of (harts hart)
+  pub part_counted : (hart : ℕ) → length (of_hart hart journal) ≡ length (harts hart)
   pub state : IsStateOf run harts banks (reach run.setup (order_of journal))

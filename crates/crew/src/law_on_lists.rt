@@ -17,7 +17,6 @@ pub fn merged_parts()
 /// Logs that agree by the rule of the record, each of which is right by itself, are a run: merged
 /// by number they are a legal journal, it obeys the plan, and where it leads is where each log
 /// leads.
-#[tactic(auto, using(crate::proofs::WholeRun::logs_run))]
 pub fn logs_make_run()
-    ensures { (run : Run) (plan : Plan) (n : ℕ) (harts banks : ℕ → List LogEntry) → AreLogsOfRun run plan n harts banks → IsRunOf run plan harts banks (journal_of run n harts) }
+    ensures { (run : Run) (plan : Plan) (n : ℕ) (harts banks : ℕ → List LogEntry) → AreLogsOfRun run plan n harts banks → IsRunOf run plan n harts banks (journal_of run n harts) }
 {}

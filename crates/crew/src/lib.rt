@@ -7,6 +7,7 @@ mod coordinator;
 mod ending;
 mod law_on_banks;
 mod law_on_lists;
+mod law_on_stories;
 mod machine;
 mod room;
 mod running;
@@ -14,6 +15,7 @@ mod worker;
 
 pub use law_on_banks::{byte_of_bank, reply_of_bank};
 pub use law_on_lists::{logs_make_run, merged_parts};
+pub use law_on_stories::accesses_stand;
 pub use machine::Machine;
 pub use running::run;
 

@@ -107,7 +107,7 @@ module _ (run : Run) (plan : Plan) (settings : Settings) where
 
 -- The beginning.
 
-lawful_some : (settings : Settings) → is_lawful settings ≡ true → 0 < settings.harts
+pub lawful_some : (settings : Settings) → is_lawful settings ≡ true → 0 < settings.harts
 lawful_some settings lawful = grind (arith, nat_tests)
 
 pub lawful_few : (settings : Settings) → is_lawful settings ≡ true → settings.harts ≤ 32
