@@ -6,6 +6,8 @@ ghost use Rattle.access_record.specs.Passes.{add_hart};
 ghost use Rattle.context.specs.Contexts.{IsOn, IsSame};
 ghost use Rattle.host_sim.specs.Tried.{IsTried};
 
+mod threads;
+
 use super::*;
 use access_record::{Bus, Founder};
 use context::{HartContext, Wants};
