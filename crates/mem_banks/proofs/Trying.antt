@@ -1,5 +1,5 @@
 -- A hart of the tests with one access more.
-use Rattle.std.proofs.Common.{◌≡◌, ℕ, ◌+◌, ◌<◌, ◌≤◌, ◌==◌, Bool, false, cond, List, [], ◌∷◌, length, refl, sym, ap, ◌∙◌, subst, Some, arith, length-append}
+use Rattle.std.proofs.Common.{◌≡◌, ℕ, ◌+◌, ◌<◌, ◌≤◌, ◌==◌, Bool, false, cond, List, [], ◌∷◌, ◌++◌, length, refl, sym, ap, ◌∙◌, subst, Some, arith, length-append}
 use Rattle.flex_base.specs.Devices.{is_transmit}
 use Rattle.flex_base.specs.Following.{waits_by, is_waiting}
 use Rattle.flex_base.specs.declared.access.Access.{Access}
