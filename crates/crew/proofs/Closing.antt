@@ -26,9 +26,9 @@ use Rattle.solo.proofs.Finishing.{record_of, some_context}
 use Rattle.solo.proofs.Taking.{AllHave}
 use Rattle.solo.proofs.Beginning.{lawful_some}
 use Rattle.crew.specs.Played.{HasEnrolled, IsAtRest}
-use Rattle.crew.specs.LogsOfRun.{ArePlacedIn, AreLogsOfRun}
+use Rattle.crew.specs.LogsOfRun.{AreLogsOfRun}
 use Rattle.crew.proofs.Gathered.{AreBack}
-use Rattle.crew.proofs.PlacedLogs.{log_placed, entry_aligned}
+use Rattle.crew.proofs.PlacedLogs.{entry_aligned}
 
 -- who rests wants no event, so no handover was the last that it did
 obeyed : (p : Class → Engine) (w : Wants) (at : Engine) (made : List (Engine × What)) → (w ≡ wants.Over) ⊎ (w ≡ wants.Parked) → ObeysSoFar p w at made
@@ -95,9 +95,6 @@ module _ (run : Run) (plan : Plan) (memory : Memory) (contexts : List Context) (
     name : (h : ℕ) → h < run.setup.harts → NamePlaces run (logs_of (passes_of contexts) h)
     name h below = subst (NamePlaces run) (sym (log_is h below)) (back.each h any below).on.places
 
-    placed : (h : ℕ) → h < run.setup.harts → ArePlacedIn run.setup (logs_of (passes_of contexts) h)
-    placed h below = log_placed run.setup h (logs_of (passes_of contexts) h) (entry_aligned run.setup.ram run.setup.image back.runnable.fits) (follow h below)
-
     -- what it wants
     rests : (h : ℕ) → (below : h < run.setup.harts) → IsAtRest memory.devices (get_or contexts h any)
         → (wants_in run.setup (get_or contexts h any) ≡ wants.Over) ⊎ (wants_in run.setup (get_or contexts h any) ≡ wants.Parked)
@@ -129,9 +126,9 @@ module _ (run : Run) (plan : Plan) (memory : Memory) (contexts : List Context) (
           rule = record_of run.book.limits n (passes_of contexts) (bank_passes memory) (subst Closed taken closed);
           counted = back.runnable.harts;
           some = some_banks (ram_banks run) back.runnable.counted;
+          entry = entry_aligned run.setup.ram run.setup.image back.runnable.fits;
           follow = follow;
           name = name;
-          placed = placed;
           banked = banked;
           by_plan = by_plan;
         }

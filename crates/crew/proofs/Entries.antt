@@ -13,6 +13,7 @@ use Rattle.solo.specs.Rising.{AreOfHarts}
 use Rattle.crew.specs.LogsOfRun.{ArePlacedIn, AreLogsOfRun}
 use Rattle.crew.proofs.Ascending.{In}
 use Rattle.crew.proofs.Going.{IsHere, IsEntry}
+use Rattle.crew.proofs.PlacedLogs.{log_placed}
 
 -- An entry of a log that keeps each of these.
 
@@ -52,7 +53,7 @@ module _ (run : Run) (plan : Plan) (n : ℕ) (harts banks : ℕ → List LogEntr
       let below = below_in h e i in record {
         below = below;
         here = here_by run e.event.what e.bank (bank_of_it h e (harts h) (are.rule.own h) i) (names_it run e (harts h) (are.name h below) i)
-            (placed_it run.setup e (harts h) (are.placed h below) i);
+            (placed_it run.setup e (harts h) (log_placed run.setup h (harts h) are.entry (are.follow h below)) i);
       }
 
 -- the events of such entries are of harts of the run

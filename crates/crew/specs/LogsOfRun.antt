@@ -1,8 +1,9 @@
 -- The logs of harts and banks of one run, each right by itself; and the run that they are when they are merged.
-use Rattle.std.specs.Prelude.{◌≡◌, ℕ, ◌<◌, List, length}
+use Rattle.std.specs.Prelude.{◌≡◌, ℕ, ◌<◌, true, List, length}
 use Rattle.std.specs.List.{All}
 use Rattle.flex_base.specs.Setup.{Setup}
 use Rattle.flex_base.specs.FlatMemory.{byte}
+use Rattle.flex_base.specs.Word.{is_multiple}
 use Rattle.flex_base.specs.Banks.{bank_of, accesses_of, IsBanked}
 use Rattle.flex_base.specs.Following.{Follows, instruction_of}
 use Rattle.flex_base.specs.Unsplit.{Machine, instruction_at, reach}
@@ -25,16 +26,16 @@ use Rattle.crew.specs.Placing.{AreEventsPlaced}
 abbrev pub ArePlacedIn : Setup → List LogEntry → Type 0
 ArePlacedIn setup log = AreEventsPlaced setup (events_of log)
 
--- The logs meet the rule of the record, which has a log for each hart of the run and at least one bank of RAM. The log of each
--- hart follows its instructions and is by the plan; its accesses name the bank of their address and stand where they may. The
--- log of each bank is banked
+-- The logs meet the rule of the record, which has a log for each hart of the run and at least one bank of RAM; the entry of the
+-- image is that of an instruction. The log of each hart follows its instructions and is by the plan, and its accesses name the
+-- bank of their address. The log of each bank is banked
 pub record AreLogsOfRun (run : Run) (plan : Plan) (n : ℕ) (harts banks : ℕ → List LogEntry) : Type 0 where
   pub rule : IsRecord run.book.limits n harts banks
   pub counted : run.book.limits.harts ≡ run.setup.harts
   pub some : 0 < ram_banks run
   pub follow : (hart : ℕ) → hart < run.setup.harts → Follows run.setup hart (events_of (harts hart))
   pub name : (hart : ℕ) → hart < run.setup.harts → NamePlaces run (harts hart)
-  pub placed : (hart : ℕ) → hart < run.setup.harts → ArePlacedIn run.setup (harts hart)
+  pub entry : is_multiple run.setup.image.entry 4 ≡ true
   pub banked : (bank : ℕ) → bank < run.book.limits.banks → IsBanked run.setup (ram_banks run) bank (events_of (banks bank))
   pub by_plan : (hart : ℕ) → hart < run.setup.harts
       → (last : Engine) × ByPlan (plan hart) (plan hart class.Fetch) (moves (events_of (harts hart))) last

@@ -6,6 +6,8 @@ ghost use Rattle.access_record.specs.Passes.{add_hart};
 ghost use Rattle.context.specs.Contexts.{IsOn, IsSame};
 ghost use Rattle.host_sim.specs.Tried.{IsTried};
 
+mod threads;
+
 use super::*;
 use access_record::{Bus, Founder};
 use context::{HartContext, Wants};
@@ -16,7 +18,7 @@ use mem_banks::PlainBus;
 use std::alloc::{AllocError, Global};
 use std::process::Abort;
 use std::test::Fail;
-use transplant_plan::{Plan, read_plan};
+use transplant_plan::{Plan, PlanFault, read_plan};
 
 const SETTINGS: Settings = Settings {
     harts: 2,
@@ -122,6 +124,7 @@ fn a_run_stops_where_it_must(rt: HostRuntime) -> Result<(), Fail> {
     assert!(rt; SETTINGS.lawful() && image.fits(SETTINGS.ram));
     let plan = match read_plan(rt.alloc(), PLAN) {
         Ok(plan) => plan,
+        Err(PlanFault::OutOfMemory) => return Err(AllocError.into()),
         Err(_) => panic!(rt; "plan"),
     };
     let first_log = HartLog::new(rt.alloc(), ROOM)?;
@@ -130,7 +133,7 @@ fn a_run_stops_where_it_must(rt: HostRuntime) -> Result<(), Fail> {
     let input = Vec::new(rt.alloc());
     let Ok((mut bus, founder)) = PlainBus::new(rt.alloc(), &image, &SETTINGS, 4, input) else {
         passes.destroy_empty();
-        panic!(rt; "memory")
+        return Err(AllocError.into());
     };
     let (founder, second) = begin(&mut bus, founder, &image, HartId(1), second_log, plan);
     let (founder, first) = begin(&mut bus, founder, &image, HartId(0), first_log, plan);

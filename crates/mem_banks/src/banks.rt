@@ -83,6 +83,10 @@ impl<N: RunName> Banks<N> {
     }
 
     /// Makes the locks again, of a memory of the named run that isn't settled. It takes no memory.
+    ///
+    /// What is known of locks is what their type keeps: the lines of a bank of the named run lie under
+    /// each, or its devices, and they are the replay of their log. A clause could add nothing, since
+    /// other threads may use the banks by then.
     pub fn renew(end: EndMemory, room: LockRoom<N>) -> Banks<N>
         requires memory { IsMemoryOf N.run end }
     {

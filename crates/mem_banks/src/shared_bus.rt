@@ -14,6 +14,8 @@ pub struct SharedBus<'a, R: Wait, N: RunName, G: Gate> {
 }
 
 impl<'a, R: Wait, N: RunName, G: Gate> SharedBus<'a, R, N, G> {
+    /// The bus of one worker. That its run is the named one is said by its type, and it has no history,
+    /// so there is nothing that a clause could add.
     pub fn new(rt: &'a R, banks: &'a Banks<N>, gate: &'a G) -> SharedBus<'a, R, N, G> {
         SharedBus { rt, banks, gate }
     }

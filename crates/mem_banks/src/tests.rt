@@ -365,7 +365,7 @@ fn banks_and_devices_answer(rt: HostRuntime) -> Result<(), Fail> {
     let mut passes = Vec::with_capacity(rt.alloc(), 2)?;
     let Ok((mut bus, founder)) = PlainBus::new(rt.alloc(), &image, &SETTINGS, 4, input) else {
         passes.destroy_empty();
-        panic!(rt; "memory")
+        return Err(AllocError.into());
     };
     let (founder, second) = enrol(&mut bus, founder, HartId(1), 72, 2);
     let (founder, first) = enrol(&mut bus, founder, HartId(0), 72, 2);

@@ -7,7 +7,7 @@ use super::{SETTINGS, image};
 use crate::{Banks, EndMemory, PlainBus, RunName, SharedBus};
 use access_record::{Bus, Entry, Founder, Pass};
 use flex_base::{Engine, HartId, OpenGate, What};
-use std::alloc::Global;
+use std::alloc::{AllocError, Global};
 use std::marker::Brand;
 use std::process::Abort;
 use std::sync::Wait;
@@ -26,13 +26,13 @@ fn hand_over<B: Bus>(bus: &mut B, pass: Pass) -> Pass
     pass
 }
 
-// Puts the banks under locks, notes a handover, and takes the locks away.
+// Puts the banks under locks, notes a handover, and takes the locks away. An error is want of memory.
 fn under_locks<N: RunName, R: Wait>(
     rt: &R,
     alloc: Global,
     plain: PlainBus,
     pass: Pass,
-) -> (EndMemory, Pass)
+) -> (EndMemory, Pass, Result<(), AllocError>)
     requires name { plain.run ≡ N.run }
     requires given { IsGiven plain.run pass }
     ensures memory { IsMemoryOf N.run result.0 }
@@ -41,15 +41,15 @@ fn under_locks<N: RunName, R: Wait>(
 {
     let banks = match Banks::<N>::new(alloc, plain) {
         Ok(banks) => banks,
-        Err(plain) => return (plain.dissolve(), pass),
+        Err(plain) => return (plain.dissolve(), pass, Err(AllocError)),
     };
     let pass = hand_over(&mut SharedBus::new(rt, &banks, &OpenGate), pass);
     let (memory, room) = banks.dissolve(rt);
     room.discard();
-    (memory, pass)
+    (memory, pass, Ok(()))
 }
 
-// Answers how many events were counted.
+// Answers how many events were counted. An error is want of memory.
 fn count_named<N: RunName, R: Wait>(
     rt: &R,
     alloc: Global,
@@ -57,18 +57,19 @@ fn count_named<N: RunName, R: Wait>(
     founder: Founder,
     pass: Pass,
     mut passes: Vec<Pass>,
-) -> u64
+) -> Result<u64, AllocError>
     requires name { plain.run ≡ N.run }
     requires given { IsGiven plain.run pass }
     requires founder { IsFounderOf plain.run founder }
     requires harts { founder.harts ≡ pass.hart.0 ∷ [] }
     requires room { (vec_len passes ≡ 0) × (1 ≤ vec_capacity passes) }
 {
-    let (mut memory, pass) = under_locks::<N, R>(rt, alloc, plain, pass);
+    let (mut memory, pass, done) = under_locks::<N, R>(rt, alloc, plain, pass);
     passes.push_reserved(pass);
     let closed = memory.settle(founder, passes);
     memory.discard();
-    closed.count
+    done?;
+    Ok(closed.count)
 }
 
 #[test]
@@ -79,10 +80,10 @@ fn a_shared_bus_notes(rt: HostRuntime) -> Result<(), Fail> {
     let input = Vec::new(rt.alloc());
     let Ok((mut plain, founder)) = PlainBus::new(rt.alloc(), &image, &SETTINGS, 4, input) else {
         passes.destroy_empty();
-        panic!(rt; "memory")
+        return Err(AllocError.into());
     };
     let (founder, pass) = plain.enrol(founder, HartId(0));
-    let count = count_named::<Brand, _>(&rt, rt.alloc(), plain, founder, pass, passes);
+    let count = count_named::<Brand, _>(&rt, rt.alloc(), plain, founder, pass, passes)?;
     assert_eq!(rt; count, 1);
     Ok(())
 }

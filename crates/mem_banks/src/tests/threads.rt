@@ -1,11 +1,13 @@
 //! Threads at banks under locks. What they were answered is judged by a plain memory.
 ghost use Rattle.std.specs.Prelude.{◌≡◌, ◌+◌, ◌<◌, ◌≤◌, true, [], vec_len, vec_capacity};
+ghost use Rattle.std.specs.List.{All};
 ghost use Rattle.flex_base.specs.Forms.{IsPlaced};
 ghost use Rattle.mem_lines.specs.Bank.{is_bank_count};
 ghost use Rattle.access_record.specs.Rule.{occurrences};
 ghost use Rattle.access_record.specs.Passes.{add_hart};
 ghost use Rattle.mem_banks.specs.End.{IsMemoryOf, IsFounderOf};
-ghost use Rattle.mem_banks.specs.Tried.{IsTried, IsSmall};
+ghost use Rattle.mem_banks.specs.Plain.{numbers_below};
+ghost use Rattle.mem_banks.specs.Tried.{IsTried, IsSmall, harts_of};
 
 use super::{Tried, after_send, enrol, image, is_placed, is_told_to_wait};
 use crate::{Banks, EndMemory, PlainBus, RunName};
@@ -18,19 +20,19 @@ use std::sync::Wait;
 use std::test::*;
 use std::thread::{Threads, for_each_mut};
 
-const HARTS: usize = 4;
+const HARTS: usize = 8;
 
 // How many accesses a hart makes in each of two phases.
 const ACCESSES: u64 = 500;
 
 const SETTINGS: Settings = Settings {
-    harts: 4,
+    harts: 8,
     ram: 0x10_0000,
     budget: 50,
 };
 
 const LAYOUT: Layout = Layout {
-    harts: 4,
+    harts: 8,
     ram: 0x10_0000,
 };
 
@@ -60,13 +62,13 @@ impl<N: RunName> Model for Worker<N> {
     ghost view = { λ w. w.hart };
 
     ghost invariant = { λ w. IsSomeAnd w.hart (λ t. IsTried N.run t.pass t.waiting t.left t.bytes)
-        × (N.run.setup.harts ≡ 4) × (N.run.setup.ram ≡ 1048576) };
+        × (N.run.setup.harts ≡ 8) × (N.run.setup.ram ≡ 1048576) };
 }
 
 impl<N: RunName> Worker<N> {
     fn of(hart: Tried, made: Vec<Made>) -> Worker<N>
         requires tried { IsTried N.run hart.pass hart.waiting hart.left hart.bytes }
-        requires harts { N.run.setup.harts ≡ 4 }
+        requires harts { N.run.setup.harts ≡ 8 }
         requires ram { N.run.setup.ram ≡ 1048576 }
     {
         Worker {
@@ -220,18 +222,19 @@ fn work_all<N: RunName + Send + Sync, R: Threads + Wait + Sync>(
 }
 
 // Lets the harts make their accesses in two phases. Between them the locks are taken away and made again.
+// An error is want of memory.
 fn phases<N: RunName + Send + Sync, R: Threads + Wait + Sync>(
     rt: &R,
     alloc: Global,
     plain: PlainBus,
     workers: &mut [Worker<N>],
-) -> EndMemory
+) -> (EndMemory, Result<(), AllocError>)
     requires name { plain.run ≡ N.run }
-    ensures memory { IsMemoryOf N.run result }
+    ensures memory { IsMemoryOf N.run result.0 }
 {
     let banks = match Banks::<N>::new(alloc, plain) {
         Ok(banks) => banks,
-        Err(plain) => return plain.dissolve(),
+        Err(plain) => return (plain.dissolve(), Err(AllocError)),
     };
     work_all(rt, &banks, workers, 0);
     let (memory, room) = banks.dissolve(rt);
@@ -239,21 +242,21 @@ fn phases<N: RunName + Send + Sync, R: Threads + Wait + Sync>(
     work_all(rt, &banks, workers, 1);
     let (memory, room) = banks.dissolve(rt);
     room.discard();
-    memory
+    (memory, Ok(()))
 }
 
 // Enrols a hart for a thread.
 fn add_worker<N: RunName>(
-    alloc: Global,
     plain: &mut PlainBus,
     founder: Founder,
     workers: &mut Vec<Worker<N>>,
     hart: u8,
+    made: Vec<Made>,
 ) -> Founder
     requires name { plain.old.run ≡ N.run }
     requires small { IsSmall plain.old.run }
     requires founder { founder.id ≡ plain.old.run.book.id }
-    requires hart { (hart < 4) × (occurrences hart founder.harts ≡ 0) }
+    requires hart { (hart < 8) × (occurrences hart founder.harts ≡ 0) }
     requires room { vec_len workers.old < vec_capacity workers.old }
     ensures founder { result ≡ add_hart founder (record { 0 = hart }) }
     ensures len { vec_len workers.new ≡ vec_len workers.old + 1 }
@@ -261,81 +264,108 @@ fn add_worker<N: RunName>(
     ensures same { plain.new ≡ plain.old }
 {
     let (founder, tried) = enrol(plain, founder, HartId(hart), 2 * ACCESSES, 0);
-    let made = match Vec::with_capacity(alloc, 2 * ACCESSES as usize) {
-        Ok(made) => made,
-        Err(_) => Vec::new(alloc),
-    };
     workers.push_reserved(Worker::of(tried, made));
     founder
 }
 
-// Takes the last hart from its thread, and puts what it has made where its number is. It returns only
-// where it is this hart.
+// Enrols all harts, each with its room.
+fn add_workers<N: RunName>(
+    alloc: Global,
+    plain: &mut PlainBus,
+    mut founder: Founder,
+    workers: &mut Vec<Worker<N>>,
+    mut rooms: Vec<Vec<Made>>,
+) -> Founder
+    requires name { plain.old.run ≡ N.run }
+    requires small { IsSmall plain.old.run }
+    requires founder { IsFounderOf plain.old.run founder }
+    requires none { founder.harts ≡ [] }
+    requires room { (vec_len workers.old ≡ 0) × (8 ≤ vec_capacity workers.old) }
+    ensures founder { IsFounderOf plain.new.run result }
+    ensures harts { result.harts ≡ numbers_below 8 }
+    ensures all { vec_len workers.new ≡ 8 }
+    ensures same { plain.new ≡ plain.old }
+{
+    for hart in 0..HARTS as u8 {
+        let made = rooms.pop().unwrap_or(Vec::new(alloc));
+        founder = add_worker(plain, founder, workers, hart, made);
+    }
+    founder
+}
+
+// Takes a hart from its thread, and puts what it has made where its number is. It returns only where it
+// is this hart.
 fn take_worker<N: RunName, R: Wait>(
     rt: &R,
-    workers: &mut Vec<Worker<N>>,
-    hart: u8,
+    worker: Worker<N>,
+    hart: usize,
     all: &mut [Option<Made>],
 ) -> Pass
-    requires some { 0 < vec_len workers.old }
     ensures record { result.id ≡ N.run.book.id }
     ensures hart { result.hart.0 ≡ hart }
-    ensures len { vec_len workers.new + 1 ≡ vec_len workers.old }
 {
-    let Some(worker) = workers.pop() else {
-        unreachable!()
-    };
     let (pass, made) = worker.into_parts();
     for one in made.as_slice() {
         if let Some(place) = all.get_mut(one.number as usize) {
             *place = Some(*one);
         }
     }
-    if pass.hart().0 != hart {
+    if pass.hart().0 as usize != hart {
         for _ in rt.forever() {}
         unreachable!()
     }
     pass
 }
 
-// A whole run under the name of its record. It answers how many events were counted.
+// Takes all harts from their threads, the last one first.
+fn take_workers<N: RunName, R: Wait>(
+    rt: &R,
+    mut workers: Vec<Worker<N>>,
+    mut passes: Vec<Pass>,
+    all: &mut [Option<Made>],
+) -> Vec<Pass>
+    requires all { vec_len workers ≡ 8 }
+    requires room { (vec_len passes ≡ 0) × (8 ≤ vec_capacity passes) }
+    ensures record { All (λ p. p.id ≡ N.run.book.id) result.items }
+    ensures harts { harts_of result.items ≡ numbers_below 8 }
+{
+    while let Some(worker) = workers.pop() {
+        passes.push_reserved(take_worker(rt, worker, workers.len(), all));
+    }
+    workers.destroy_empty();
+    passes
+}
+
+// A whole run under the name of its record. It answers how many events were counted. An error is want of
+// memory.
 fn run_named<N: RunName + Send + Sync, R: Threads + Wait + Sync>(
     rt: &R,
     alloc: Global,
     mut plain: PlainBus,
     founder: Founder,
-    mut passes: Vec<Pass>,
+    passes: Vec<Pass>,
+    rooms: Vec<Vec<Made>>,
     all: &mut [Option<Made>],
-) -> u64
+) -> Result<u64, AllocError>
     requires name { plain.run ≡ N.run }
     requires small { IsSmall plain.run }
     requires founder { IsFounderOf plain.run founder }
     requires harts { founder.harts ≡ [] }
-    requires room { (vec_len passes ≡ 0) × (4 ≤ vec_capacity passes) }
+    requires room { (vec_len passes ≡ 0) × (8 ≤ vec_capacity passes) }
 {
     let Ok(mut workers) = Vec::<Worker<N>>::with_capacity(alloc, HARTS) else {
         let mut memory = plain.dissolve();
         memory.settle(founder, passes);
         memory.discard();
-        return 0;
+        return Err(AllocError);
     };
-    let founder = add_worker(alloc, &mut plain, founder, &mut workers, 0);
-    let founder = add_worker(alloc, &mut plain, founder, &mut workers, 1);
-    let founder = add_worker(alloc, &mut plain, founder, &mut workers, 2);
-    let founder = add_worker(alloc, &mut plain, founder, &mut workers, 3);
-    let mut memory = phases(rt, alloc, plain, workers.as_mut_slice());
-    let third = take_worker(rt, &mut workers, 3, all);
-    let second = take_worker(rt, &mut workers, 2, all);
-    let first = take_worker(rt, &mut workers, 1, all);
-    let zeroth = take_worker(rt, &mut workers, 0, all);
-    workers.destroy_empty();
-    passes.push_reserved(third);
-    passes.push_reserved(second);
-    passes.push_reserved(first);
-    passes.push_reserved(zeroth);
+    let founder = add_workers(alloc, &mut plain, founder, &mut workers, rooms);
+    let (mut memory, done) = phases(rt, alloc, plain, workers.as_mut_slice());
+    let passes = take_workers(rt, workers, passes, all);
     let closed = memory.settle(founder, passes);
     memory.discard();
-    closed.count
+    done?;
+    Ok(closed.count)
 }
 
 // A memory of 128 doublewords, what each hart has reserved, and the time.
@@ -438,13 +468,25 @@ fn agree_at<R: Threads + Wait + Sync>(rt: &R, alloc: Global, banks: u8) -> Resul
     for _ in 0..places {
         all.push(None)?;
     }
+    let mut rooms = Vec::with_capacity(alloc, HARTS)?;
+    for _ in 0..HARTS {
+        rooms.push(Vec::with_capacity(alloc, 2 * ACCESSES as usize)?)?;
+    }
     let passes = Vec::with_capacity(alloc, HARTS)?;
     let Ok((plain, founder)) = PlainBus::new(alloc, &image, &SETTINGS, banks, Vec::new(alloc))
     else {
         passes.destroy_empty();
         return Err(AllocError);
     };
-    let count = run_named::<Brand, R>(rt, alloc, plain, founder, passes, all.as_mut_slice());
+    let count = run_named::<Brand, R>(
+        rt,
+        alloc,
+        plain,
+        founder,
+        passes,
+        rooms,
+        all.as_mut_slice(),
+    )?;
     Ok(count == places as u64 && judged(all.as_slice()) == places)
 }
 
