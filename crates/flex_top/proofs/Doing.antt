@@ -64,6 +64,9 @@ reads_after old mid new Fails Fails' first unfailed second =
       said = second.said ∙ first.said;
     }
 
+pub some_same : (a b : Reading) → Some a ≡ Some b → a ≡ b
+some_same a b same = cc
+
 -- a read that failed was answered so
 pub read_failed : (T : Type 0) (old new : Outside) (why : Status) → OnlyReads old new (IsErrOf {T = T} {E = Status} (Err why) status.ReadFault) → OnlyReads old new (why ≡ status.ReadFault)
 read_failed T old new why took =

@@ -84,7 +84,9 @@ fn play<R: Threads + Wait + Sync, G: Gate>(
     let pieces = Pieces::new(alloc)?;
     let tail = Tail::new(alloc)?;
     let Inputs { plan, image, input } = inputs;
-    let (bus, founder) = PlainBus::new(alloc, &image, &settings, plan.banks(), input)?;
+    let Ok((bus, founder)) = PlainBus::new(alloc, &image, &settings, plan.banks(), input) else {
+        return Err(AllocError);
+    };
     let ended = crew::run(rt, alloc, bus, founder, &image, plan, settings, gate)?;
     Ok(Played {
         ended,
