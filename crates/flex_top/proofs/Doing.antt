@@ -5,11 +5,13 @@ use Rattle.flex_base.specs.Files.{Files, Counts, ChangesFile, ChangesText, Said,
 use Rattle.flex_base.specs.Loaded.{Loaded}
 use Rattle.flex_base.specs.Outside.{Outside, OnlyReads, Writes}
 use Rattle.transplant_plan.specs.Assignment.{Assignment}
+use Rattle.transplant_plan.specs.Shown.{shown}
 use Rattle.flex_top.specs.Words.{Reading}
-use Rattle.flex_top.specs.Answer.{Sources, file_among, sources_among, plan_by, plan_from, image_from, input_from, setup_of, answer_of, expected, Outcome, outcome_of_run, outcome_of, outcome}
-use Rattle.flex_top.specs.Does.{IsAnswer, first_named, Answers, IsCalm, IsEnded, WritesAll, WritesPart, Leaves, BreaksSaying, BreaksWriting, LeavesPart, LeavesNothing, Does}
-use Rattle.flex_top.specs.Taking.{IsFile, Gives, Refuses, IsRefused, IsPlanRefused, IsRefusal, IsOfRun}
+use Rattle.flex_top.specs.Answer.{Sources, file_among, sources_among, plan_by, plan_from, image_from, input_from, setup_of, answer_of, expected, Outcome, outcome_of_run, outcome_of, IsOutcome, IsRunOutcome, IsOutcomeOfRun}
+use Rattle.flex_top.specs.Does.{IsAnswer, first_named, first_file, Answers, IsCalm, IsEnded, WritesAll, WritesPart, Leaves, BreaksSaying, BreaksWriting, LeavesPart, LeavesOne, LeavesPartOfOne, LeavesNothing, Does}
+use Rattle.flex_top.specs.Taking.{IsFile, Gives, Refuses, IsRefused, IsPlanRefused, AreGiven, AreRefused, IsRefusal, IsOfRun}
 use Rattle.flex_top.specs.Written.{OnlyLeaves, Becomes, BecomesPart}
+use Rattle.flex_top.specs.declared.sources.Inputs.{Inputs}
 use Rattle.flex_top.specs.declared.status.Status.{Status}
 use Rattle.flex_top.specs.declared.status.Status.TheVariants as status
 
@@ -61,6 +63,9 @@ reads_after old mid new Fails Fails' first unfailed second =
       written = second.written ∙ first.written;
       said = second.said ∙ first.said;
     }
+
+pub some_same : (a b : Reading) → Some a ≡ Some b → a ≡ b
+some_same a b same = cc
 
 -- a read that failed was answered so
 pub read_failed : (T : Type 0) (old new : Outside) (why : Status) → OnlyReads old new (IsErrOf {T = T} {E = Status} (Err why) status.ReadFault) → OnlyReads old new (why ≡ status.ReadFault)
@@ -150,16 +155,16 @@ unwritten : (old : Option Files) (name : List ℕ) → ChangesFile old old name 
 unwritten None name = refl
 unwritten (Some files) name = (tt, λ other differs. refl)
 
-does_refuse : (r : Reading) (old new : Outside) (plan image input : Option (List ℕ)) (why : Status) → IsFile old.held r.plan plan → IsFile old.held (Some r.image) image → IsFile old.held r.input input
-    → Answers (first_named r.plan plan image) (expected r (sources plan image input)) why → IsRefusal why → OnlyReads old new (why ≡ status.ReadFault) → Does r old why new
-does_refuse r old new plan image input why first second third is refusal took =
+-- a command whose files are refused
+pub does_refuse : (Is : Sources → Outcome → Type 0) (r : Reading) (old new : Outside) (why : Status) → AreRefused r old.held why → IsRefusal why → OnlyReads old new (why ≡ status.ReadFault) → Does Is r old why new
+does_refuse Is r old new why refused refusal took =
     let Stays : Option Files → Type 0 = λ w. ChangesFile old.written w r.trace (λ was is. Unit {0}) in
     record {
-      files = sources plan image input;
-      told = told_sources old.held r plan image input first second third;
-      answers = is;
+      files = refused.files;
+      told = refused.told;
+      answers = refused.answers;
       completes = λ ends calm quiet.
-          ended_refused (first_named r.plan plan image) (expected r (sources plan image input)) why is refusal ends (calm_unfailed old.read_faults new.read_faults (why ≡ status.ReadFault) took.cause calm);
+          ended_refused (first_file r refused.files) (expected r refused.files) why refused.answers refusal ends (calm_unfailed old.read_faults new.read_faults (why ≡ status.ReadFault) took.cause calm);
       ended = λ at. absurd (refusal_unended why refusal at);
       cut = λ at. absurd (refusal_unwritten why refusal at);
       nothing = λ unended unfailed. record { said = took.said; written = took.written };
@@ -170,43 +175,51 @@ does_refuse r old new plan image input why first second third is refusal took =
       long_input = λ n same. subst IsRefusal same refusal;
     }
 
-refuse_plan : (r : Reading) (old new : Outside) (name : Option (List ℕ)) (why : Status) → r.plan ≡ name → IsPlanRefused old.held name why → IsRefusal why
-    → OnlyReads old new (why ≡ status.ReadFault) → Does r old why new
-refuse_plan r old new None why is refused refusal took = absurd refused
-refuse_plan r old new (Some name) why is refused refusal took =
-    let image = file_held old.held (Some r.image) in
-    let input = file_held old.held r.input in
-    let Told : Option (List ℕ) → Type 0 = λ n. IsFile old.held n refused.file in
+-- Which file is refused.
+
+are_refused : (r : Reading) (held : Option Files) (plan image input : Option (List ℕ)) (why : Status) → IsFile held r.plan plan → IsFile held (Some r.image) image → IsFile held r.input input
+    → Answers (first_named r.plan plan image) (expected r (sources plan image input)) why → AreRefused r held why
+are_refused r held plan image input why first second third is = record {
+  files = sources plan image input;
+  told = told_sources held r plan image input first second third;
+  answers = is;
+}
+
+refuse_plan : (r : Reading) (held : Option Files) (name : Option (List ℕ)) (why : Status) → r.plan ≡ name → IsPlanRefused held name why → IsRefusal why → AreRefused r held why
+refuse_plan r held None why is refused refusal = absurd refused
+refuse_plan r held (Some name) why is refused refusal =
+    let image = file_held held (Some r.image) in
+    let input = file_held held r.input in
+    let Told : Option (List ℕ) → Type 0 = λ n. IsFile held n refused.file in
     let meaning = image_from image r.settings.ram in
     let leads = λ (same : plan_from refused.file ≡ Err why). sym (ap (λ (p : Result Assignment Status). answer_of p meaning (input_from input)) same) in
     let By : Option (List ℕ) → Type 0 = λ n. Answers (first_named n refused.file image) (answer_of (plan_by n refused.file) meaning (input_from input)) why in
-    does_refuse r old new refused.file image input why (subst Told (sym is) refused.told) (told_file old.held (Some r.image)) (told_file old.held r.input)
-    (subst By (sym is) (plan_refused refused.file (answer_of (plan_from refused.file) meaning (input_from input)) why refused.refuses refusal leads)) refusal took
+    are_refused r held refused.file image input why (subst Told (sym is) refused.told) (told_file held (Some r.image)) (told_file held r.input)
+    (subst By (sym is) (plan_refused refused.file (answer_of (plan_from refused.file) meaning (input_from input)) why refused.refuses refusal leads))
 
 -- the plan is refused
-pub does_refuse_plan : (r : Reading) (old new : Outside) (why : Status) → IsPlanRefused old.held r.plan why → IsRefusal why → OnlyReads old new (why ≡ status.ReadFault) → Does r old why new
-does_refuse_plan r old new why refused refusal took = refuse_plan r old new r.plan why refl refused refusal took
+pub plan_is_refused : (r : Reading) (held : Option Files) (why : Status) → IsPlanRefused held r.plan why → IsRefusal why → AreRefused r held why
+plan_is_refused r held why refused refusal = refuse_plan r held r.plan why refl refused refusal
 
 -- the plan is given, and the image is refused
-pub does_refuse_image : (r : Reading) (old new : Outside) (given : Assignment) (why : Status) → Gives Assignment old.held r.plan (plan_by r.plan) given
-    → IsRefused Loaded old.held (Some r.image) (λ file. image_from file r.settings.ram) why → IsRefusal why
-    → OnlyReads old new (why ≡ status.ReadFault) → Does r old why new
-does_refuse_image r old new given why gives refused refusal took =
-    let input = file_held old.held r.input in
+pub image_is_refused : (r : Reading) (held : Option Files) (given : Assignment) (why : Status) → Gives Assignment held r.plan (plan_by r.plan) given
+    → IsRefused Loaded held (Some r.image) (λ file. image_from file r.settings.ram) why → IsRefusal why → AreRefused r held why
+image_is_refused r held given why gives refused refusal =
+    let input = file_held held r.input in
     let meaning = image_from refused.file r.settings.ram in
     let planned : answer_of (Ok given) meaning (input_from input) ≡ expected r (sources gives.file refused.file input) = sym (ap (λ (p : Result Assignment Status). answer_of p meaning (input_from input)) gives.is) in
     let Is : Status → Type 0 = λ e. IsAnswer e why in
     let First : Status → Type 0 = λ e. Answers refused.file e why in
-    does_refuse r old new gives.file refused.file input why gives.told refused.told (told_file old.held r.input)
+    are_refused r held gives.file refused.file input why gives.told refused.told (told_file held r.input)
     (first_answers r.plan gives.file refused.file given (expected r (sources gives.file refused.file input)) why gives.is
     (subst Is planned (refused_image refused.file given meaning (input_from input) why refused.refuses refusal))
-    (λ unnamed. subst First planned (image_answers refused.file given meaning (input_from input) why refused.refuses refusal))) refusal took
+    (λ unnamed. subst First planned (image_answers refused.file given meaning (input_from input) why refused.refuses refusal)))
 
 -- plan and image are given, and the input is refused
-pub does_refuse_input : (r : Reading) (old new : Outside) (given : Assignment) (start : Loaded) (why : Status) → Gives Assignment old.held r.plan (plan_by r.plan) given
-    → Gives Loaded old.held (Some r.image) (λ file. image_from file r.settings.ram) start
-    → IsRefused (List ℕ) old.held r.input input_from why → IsRefusal why → OnlyReads old new (why ≡ status.ReadFault) → Does r old why new
-does_refuse_input r old new given start why planned gives refused refusal took =
+pub input_is_refused : (r : Reading) (held : Option Files) (given : Assignment) (start : Loaded) (why : Status) → Gives Assignment held r.plan (plan_by r.plan) given
+    → Gives Loaded held (Some r.image) (λ file. image_from file r.settings.ram) start
+    → IsRefused (List ℕ) held r.input input_from why → IsRefusal why → AreRefused r held why
+input_is_refused r held given start why planned gives refused refusal =
     let meaning = input_from refused.file in
     let e = expected r (sources planned.file gives.file refused.file) in
     let leads = λ (same : meaning ≡ Err why).
@@ -214,9 +227,8 @@ does_refuse_input r old new given start why planned gives refused refusal took =
     ∙ ap (λ (l : Result Loaded Status). answer_of (Ok given) l meaning) gives.is
     ∙ ap (λ (i : Result (List ℕ) Status). answer_of (Ok given) (Ok start) i) same) in
     let is : IsAnswer e why = refusal_answers (List ℕ) refused.file meaning e why refused.refuses refusal leads in
-    does_refuse r old new planned.file gives.file refused.file why planned.told gives.told refused.told
+    are_refused r held planned.file gives.file refused.file why planned.told gives.told refused.told
     (first_answers r.plan planned.file gives.file given e why planned.is is (λ unnamed. given_answers gives.file r.settings.ram start e why gives.is is))
-    refusal took
 
 -- Runs.
 
@@ -271,42 +283,46 @@ run_answers (status.InputTooLong n) of = absurd of
 run_read : (answer : Status) → IsOfRun answer → answer ≢ status.ReadFault
 run_read answer of same = subst IsOfRun same of
 
--- image and input are given, and `solo` did the rest
-pub does_run : (r : Reading) (old mid new : Outside) (given : Assignment) (start : Loaded) (input : List ℕ) (answer : Status) (Fails : Type 0)
-    → Gives Assignment old.held r.plan (plan_by r.plan) given
-    → Gives Loaded old.held (Some r.image) (λ file. image_from file r.settings.ram) start → Gives (List ℕ) old.held r.input input_from input
+-- The files that give plan, image and input.
+
+abbrev files_of : {r : Reading} {held : Option Files} {inputs : Inputs} → AreGiven r held inputs → Sources
+files_of given = sources given.plan.file given.image.gives.file given.input.file
+
+-- nothing is refused, and a run did the rest
+pub does_run : (Is : Sources → Outcome → Type 0) (r : Reading) (old mid new : Outside) (inputs : Inputs) (answer : Status) (Fails : Type 0) → (given : AreGiven r old.held inputs)
     → OnlyReads old mid Fails → IsOfRun answer
-    → (answer ≡ status.Ended → Leaves (outcome_of_run r given.engines (setup_of start input r.settings)) mid new)
-    → (answer ≡ status.WriteFault → LeavesPart (outcome_of_run r given.engines (setup_of start input r.settings)) mid new)
+    → (answer ≡ status.Ended → LeavesOne (Is (files_of given)) mid new)
+    → (answer ≡ status.WriteFault → LeavesPartOfOne (Is (files_of given)) mid new)
     → (answer ≢ status.Ended → answer ≢ status.WriteFault → LeavesNothing mid new) → Writes mid new r.trace (λ was is. Unit {0})
-    → OnlyLeaves mid new (answer ≡ status.WriteFault) → Does r old answer new
-does_run r old mid new given start input answer Fails plan_given image_given input_given took of ended cut nothing others left =
-    let files : Sources = sources plan_given.file image_given.file input_given.file in
+    → OnlyLeaves mid new (answer ≡ status.WriteFault) → Does Is r old answer new
+does_run Is r old mid new inputs answer Fails given took of ended cut nothing others left =
+    let plan_given = given.plan in
+    let image_given = given.image.gives in
+    let input_given = given.input in
+    let start = given.image.start in
+    let files : Sources = files_of given in
     let ends : expected r files ≡ status.Ended =
     ap (λ (p : Result Assignment Status). answer_of p (image_from image_given.file r.settings.ram) (input_from input_given.file)) plan_given.is
-    ∙ ap (λ (l : Result Loaded Status). answer_of (Ok given) l (input_from input_given.file)) image_given.is
-    ∙ ap (λ (i : Result (List ℕ) Status). answer_of (Ok given) (Ok start) i) input_given.is in
-    let of_run = outcome_of_run r given.engines (setup_of start input r.settings) in
-    let same : outcome r files ≡ of_run =
-    ap (λ (p : Result Assignment Status). outcome_of r p (image_from image_given.file r.settings.ram) (input_from input_given.file)) plan_given.is
-    ∙ ap (λ (l : Result Loaded Status). outcome_of r (Ok given) l (input_from input_given.file)) image_given.is
-    ∙ ap (λ (i : Result (List ℕ) Status). outcome_of r (Ok given) (Ok start) i) input_given.is in
+    ∙ ap (λ (l : Result Loaded Status). answer_of (Ok (shown inputs.plan)) l (input_from input_given.file)) image_given.is
+    ∙ ap (λ (i : Result (List ℕ) Status). answer_of (Ok (shown inputs.plan)) (Ok start) i) input_given.is in
     let By : Status → Type 0 = λ e. IsAnswer e answer in
     let Quiet : ℕ → Type 0 = λ n. IsCalm n new.write_faults in
-    let All : Outcome → Type 0 = λ o. Leaves o old new in
-    let Part : Outcome → Type 0 = λ o. LeavesPart o old new in
     let is = run_answers answer of in
     let answered : IsAnswer (expected r files) answer = subst By (sym ends) is in
     record {
       files = files;
       told = told_sources old.held r plan_given.file image_given.file input_given.file plan_given.told image_given.told input_given.told;
-      answers = first_answers r.plan plan_given.file image_given.file given (expected r files) answer plan_given.is answered
+      answers = first_answers r.plan plan_given.file image_given.file (shown inputs.plan) (expected r files) answer plan_given.is answered
           (λ unnamed. given_answers image_given.file r.settings.ram start (expected r files) answer image_given.is answered);
       completes = λ expects calm quiet.
           ended_by answer is (run_read answer of)
           (calm_unfailed mid.write_faults new.write_faults (answer ≡ status.WriteFault) left.cause (subst Quiet (sym took.write_faults) quiet));
-      ended = λ at. subst All (sym same) (leaves_from of_run old mid new took.said took.written (ended at));
-      cut = λ at. subst Part (sym same) (leaves_part_from of_run old mid new took.said took.written (cut at));
+      ended = λ at.
+          let one = ended at in
+          record { outcome = one.outcome; is = one.is; left = leaves_from one.outcome old mid new took.said took.written one.left };
+      cut = λ at.
+          let one = cut at in
+          record { outcome = one.outcome; is = one.is; left = leaves_part_from one.outcome old mid new took.said took.written one.left };
       nothing = λ unended unfailed.
           let none = nothing unended unfailed in
           record { said = none.said ∙ took.said; written = none.written ∙ took.written };
@@ -316,3 +332,29 @@ does_run r old mid new given start input answer Fails plan_given image_given inp
       long_image = λ n is_long. absurd (let At : Status → Type 0 = IsOfRun in subst At is_long of);
       long_input = λ n is_long. absurd (let At : Status → Type 0 = IsOfRun in subst At is_long of);
     }
+
+-- Outcomes of the files.
+
+-- the one of `solo`
+pub outcome_solo : (r : Reading) (held : Option Files) (inputs : Inputs) (given : AreGiven r held inputs)
+    → IsOutcome r (files_of given) (outcome_of_run r (shown inputs.plan).engines (setup_of given.image.start inputs.input.items r.settings))
+outcome_solo r held inputs given =
+    let plan = given.plan in
+    let image = given.image.gives in
+    let input = given.input in
+    sym (ap (λ (p : Result Assignment Status). outcome_of r p (image_from image.file r.settings.ram) (input_from input.file)) plan.is
+    ∙ ap (λ (l : Result Loaded Status). outcome_of r (Ok (shown inputs.plan)) l (input_from input.file)) image.is
+    ∙ ap (λ (i : Result (List ℕ) Status). outcome_of r (Ok (shown inputs.plan)) (Ok given.image.start) i) input.is)
+
+-- one of `run`
+pub outcome_run : (r : Reading) (held : Option Files) (inputs : Inputs) (given : AreGiven r held inputs) (o : Outcome)
+    → IsRunOutcome r (shown inputs.plan).engines (setup_of given.image.start inputs.input.items r.settings) o → IsOutcomeOfRun r (files_of given) o
+outcome_run r held inputs given o of = record {
+  plan = shown inputs.plan;
+  image = given.image.start;
+  input = inputs.input.items;
+  plan_is = given.plan.is;
+  image_is = given.image.gives.is;
+  input_is = given.input.is;
+  of_run = of;
+}

@@ -11,3 +11,4 @@ pub mod SameStart
 pub mod Ended
 pub mod Writing
 pub mod Growth
+pub mod Running

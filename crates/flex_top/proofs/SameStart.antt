@@ -1,5 +1,5 @@
 -- The run of an image is that of each image with the same start.
-use Rattle.std.proofs.Common.{◌≡◌, ℕ, ◌+◌, Bool, false, nat_lt, ◌&&◌, ◌==◌, if◌then◌else◌, List, [], ◌∷◌, ◌++◌, Option, None, Some, map, fold, refl, ap, ◌∙◌}
+use Rattle.std.proofs.Common.{◌≡◌, ℕ, ◌+◌, Bool, false, nat_lt, ◌&&◌, ◌==◌, if◌then◌else◌, List, [], ◌∷◌, ◌++◌, Option, None, Some, map, fold, refl, ap, sym, ◌∙◌}
 use Rattle.std.specs.Prelude.{is_some}
 use Rattle.std.specs.List.{list_all, range_with_len}
 use Rattle.std.proofs.Math.Path.{fun_ext}
@@ -7,6 +7,7 @@ use Rattle.flex_base.specs.Causes.{instruction_access_fault}
 use Rattle.flex_base.specs.Devices.{device_stop, reply_after, sent_bytes}
 use Rattle.flex_base.specs.Ends.{traps}
 use Rattle.flex_base.specs.FlatMemory.{Done, is_ram_access, byte, left_by, flat, read_at, reply_with, value_at}
+use Rattle.flex_base.specs.Journal.{IsLegal, order_of}
 use Rattle.flex_base.specs.Loaded.{Loaded}
 use Rattle.flex_base.specs.Place.{in_ram, ram_base}
 use Rattle.flex_base.specs.Rounds.{turn, turn_of, turns, repeated, most_rounds, names_played}
@@ -21,14 +22,12 @@ use Rattle.flex_base.specs.Unsplit.{Machine, instruction_from, instruction_at, b
 use Rattle.flex_base.specs.declared.access.Access.{Access}
 use Rattle.flex_base.specs.declared.access.Access.TheVariants as acc
 use Rattle.flex_base.specs.declared.access.Reply.{Reply}
+use Rattle.flex_base.specs.declared.event.Event.{Event}
 use Rattle.flex_base.specs.declared.operation.Op.{Op}
 use Rattle.flex_base.specs.declared.operation.Op.TheVariants as op
 use Rattle.flex_base.specs.declared.settings.Settings.{Settings}
 use Rattle.flex_base.specs.declared.translation.Kind.TheVariants as kind
 use Rattle.image_loader.specs.Loading.{IsSameStart}
-use Rattle.transplant_plan.specs.Shown.{shown}
-use Rattle.transplant_plan.specs.Split.{split}
-use Rattle.transplant_plan.specs.declared.plan.Plan.{Plan}
 use Rattle.tracer.specs.Tail.{tail_lines}
 use Rattle.tracer.specs.Trace.{ram_bytes, tail_of, whole_text}
 use Rattle.tracer.specs.declared.tail_text.TailLine.{TailLine}
@@ -138,7 +137,7 @@ module _ (one other : Loaded) (input : List ℕ) (settings : Settings) (same : I
       let From : ℕ → Machine = λ entry. record { harts = map (λ h. instruction_from (start h entry)) (range_with_len 0 settings.harts); ram = []; devices = []; events = [] } in
       ap From same.entry
 
-  reach_same : (order : List ℕ) → reach here order ≡ reach there order
+  pub reach_same : (order : List ℕ) → reach here order ≡ reach there order
   reach_same order = reach_from_same (begin here) order ∙ ap (λ (u : Machine). reach_from there u order) begin_same
 
   -- Turns and rounds.
@@ -160,7 +159,7 @@ module _ (one other : Loaded) (input : List ℕ) (settings : Settings) (same : I
   turn_of_same : (u : Machine) (h : ℕ) → turn_of here u h ≡ turn_of there u h
   turn_of_same u h = turn_same u h (story_of here u h) ∙ ap (turn there u h) (story_of_same u h)
 
-  ended_same : (u : Machine) → has_ended here u ≡ has_ended there u
+  pub ended_same : (u : Machine) → has_ended here u ≡ has_ended there u
   ended_same u =
       ap (λ (idle : ℕ → Bool). is_some (device_stop settings.harts u.devices) && list_all idle (range_with_len 0 settings.harts))
       (fun_ext (λ (h : ℕ). ap (λ (s : Story). is_idle (want s)) (story_of_same u h)))
@@ -180,8 +179,15 @@ module _ (one other : Loaded) (input : List ℕ) (settings : Settings) (same : I
       let harts = repeated (most_rounds here) (hart_numbers here) in
       ap (λ (ns : List ℕ). order ++ ns) (turns_same (reach here order) harts ∙ ap (λ (m : Machine). turns there m harts) (reach_same order))
 
-  played_same : (order : List ℕ) → reach here (names_played here order) ≡ reach there (names_played there order)
+  pub played_same : (order : List ℕ) → reach here (names_played here order) ≡ reach there (names_played there order)
   played_same order = reach_same (names_played here order) ∙ ap (reach there) (names_same order)
+
+  -- a legal journal of the one is legal of the other
+  pub legal_same : (journal : List Event) → IsLegal there journal → IsLegal here journal
+  legal_same journal legal = record {
+    numbers = legal.numbers;
+    events = legal.events ∙ sym (ap (λ (u : Machine). u.events) (reach_same (order_of journal)));
+  }
 
   -- What is left.
 
@@ -191,9 +197,8 @@ module _ (one other : Loaded) (input : List ℕ) (settings : Settings) (same : I
       ap (λ (f : ℕ → ℕ). tail_lines (device_stop settings.harts u.devices) settings.harts (λ h. (instruction_at u h).state) (map (λ i. f (ram_base + i)) (range_with_len 0 settings.ram)))
       (byte_same u.ram)
 
-  pub outcome_same : (plan : Plan) (order name : List ℕ)
-      → outcome_at plan here (reach here (names_played here order)) name ≡ outcome_at plan there (reach there (names_played there order)) name
-  outcome_same plan order name =
-      let u = reach here (names_played here order) in
-      ap (λ (tail : List TailLine). outcome_with (sent_bytes u.devices) name (whole_text settings (split (shown plan).engines settings.harts u.events) tail)) (tail_same u)
-      ∙ ap (λ (m : Machine). outcome_at plan there m name) (played_same order)
+  -- what is left in a state, with a journal that the state tells
+  pub outcome_same : (journal : Machine → List Event) (u v : Machine) (name : List ℕ) → u ≡ v → outcome_at (journal u) here u name ≡ outcome_at (journal v) there v name
+  outcome_same journal u v name same_state =
+      ap (λ (tail : List TailLine). outcome_with (sent_bytes u.devices) name (whole_text settings (journal u) tail)) (tail_same u)
+      ∙ ap (λ (m : Machine). outcome_at (journal m) there m name) same_state

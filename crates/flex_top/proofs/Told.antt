@@ -4,8 +4,8 @@ use Rattle.std.specs.Prelude.{IfSome, IsSomeAnd}
 use Rattle.flex_base.specs.Files.{Files}
 use Rattle.flex_base.specs.Outside.{Outside}
 use Rattle.flex_top.specs.Words.{Reading}
-use Rattle.flex_top.specs.Answer.{Sources, sources_among, expected, outcome}
-use Rattle.flex_top.specs.Does.{first_file, Answers, IsCalm, IsEnded, Leaves, LeavesPart, Does}
+use Rattle.flex_top.specs.Answer.{Sources, Outcome, sources_among, expected, outcome, IsOutcome}
+use Rattle.flex_top.specs.Does.{first_file, Answers, IsCalm, IsEnded, Leaves, LeavesPart, LeavesOne, LeavesPartOfOne, Does}
 use Rattle.flex_top.specs.declared.status.Status.{Status}
 use Rattle.flex_top.specs.declared.status.Status.TheVariants as status
 
@@ -18,18 +18,28 @@ ends_told : (held : Option Files) (r : Reading) (files : Sources) → IfSome hel
 ends_told None r files same ends = absurd ends
 ends_told (Some told) r files same ends = ap (expected r) same ∙ ends
 
-pub answers_told : (r : Reading) (old : Outside) (answer : Status) (new : Outside) → Does r old answer new
-    → IfSome old.held (λ files. Answers (first_file r (sources_among r files)) (expected r (sources_among r files)) answer)
-answers_told r old answer new does = by_told old.held r does.files (λ files. Answers (first_file r files) (expected r files) answer) does.told does.answers
+module _ (Is : Sources → Outcome → Type 0) (r : Reading) (old : Outside) (answer : Status) (new : Outside) (does : Does Is r old answer new) where
+  pub answers_told : IfSome old.held (λ files. Answers (first_file r (sources_among r files)) (expected r (sources_among r files)) answer)
+  answers_told = by_told old.held r does.files (λ files. Answers (first_file r files) (expected r files) answer) does.told does.answers
 
-pub completes_told : (r : Reading) (old : Outside) (answer : Status) (new : Outside) → Does r old answer new
-    → IsSomeAnd old.held (λ files. expected r (sources_among r files) ≡ status.Ended) → IsCalm old.read_faults new.read_faults → IsCalm old.write_faults new.write_faults → IsEnded answer
-completes_told r old answer new does ends = does.completes (ends_told old.held r does.files does.told ends)
+  pub completes_told : IsSomeAnd old.held (λ files. expected r (sources_among r files) ≡ status.Ended) → IsCalm old.read_faults new.read_faults → IsCalm old.write_faults new.write_faults → IsEnded answer
+  completes_told ends = does.completes (ends_told old.held r does.files does.told ends)
 
-pub ended_told : (r : Reading) (old : Outside) (answer : Status) (new : Outside) → Does r old answer new
-    → answer ≡ status.Ended → IfSome old.held (λ files. Leaves (outcome r (sources_among r files)) old new)
-ended_told r old answer new does at = by_told old.held r does.files (λ files. Leaves (outcome r files) old new) does.told (does.ended at)
+  pub ended_told : answer ≡ status.Ended → IfSome old.held (λ files. LeavesOne (Is (sources_among r files)) old new)
+  ended_told at = by_told old.held r does.files (λ files. LeavesOne (Is files) old new) does.told (does.ended at)
 
-pub cut_told : (r : Reading) (old : Outside) (answer : Status) (new : Outside) → Does r old answer new
-    → answer ≡ status.WriteFault → IfSome old.held (λ files. LeavesPart (outcome r (sources_among r files)) old new)
-cut_told r old answer new does at = by_told old.held r does.files (λ files. LeavesPart (outcome r files) old new) does.told (does.cut at)
+  pub cut_told : answer ≡ status.WriteFault → IfSome old.held (λ files. LeavesPartOfOne (Is (sources_among r files)) old new)
+  cut_told at = by_told old.held r does.files (λ files. LeavesPartOfOne (Is files) old new) does.told (does.cut at)
+
+-- `solo` leaves the very outcome of its files
+pub ended_solo : (r : Reading) (old : Outside) (answer : Status) (new : Outside) → (does : Does (IsOutcome r) r old answer new) → answer ≡ status.Ended → Leaves (outcome r does.files) old new
+ended_solo r old answer new does at =
+    let one = does.ended at in
+    let All : Outcome → Type 0 = λ o. Leaves o old new in
+    subst All one.is one.left
+
+pub cut_solo : (r : Reading) (old : Outside) (answer : Status) (new : Outside) → (does : Does (IsOutcome r) r old answer new) → answer ≡ status.WriteFault → LeavesPart (outcome r does.files) old new
+cut_solo r old answer new does at =
+    let one = does.cut at in
+    let Part : Outcome → Type 0 = λ o. LeavesPart o old new in
+    subst Part one.is one.left

@@ -10,13 +10,13 @@ use Rattle.std.proofs.lemmas.Bool.{eqb-true}
 use Rattle.std.proofs.lemmas.List.Folds.{list_all_at}
 use Rattle.std.proofs.lemmas.List.FromFn.{length-range_with_len, get_or-range_with_len}
 use Rattle.std.proofs.lemmas.List.Elements.{filter_map-append}
-use Rattle.flex_top.specs.Words.{reading, hart_of, value_of, values}
+use Rattle.flex_top.specs.Words.{reading_by, hart_of, value_of, values}
 
-pub reading_short : (ws : List (List ℕ)) → length ws < 3 → reading ws ≡ None
-reading_short [] few = refl
-reading_short (a ∷ []) few = refl
-reading_short (a ∷ b ∷ []) few = refl
-reading_short (a ∷ b ∷ c ∷ rest) few = absurd (omega arith)
+pub reading_short : (name : List ℕ) (ordered : Bool) (ws : List (List ℕ)) → length ws < 3 → reading_by name ordered ws ≡ None
+reading_short name ordered [] few = refl
+reading_short name ordered (a ∷ []) few = refl
+reading_short name ordered (a ∷ b ∷ []) few = refl
+reading_short name ordered (a ∷ b ∷ c ∷ rest) few = absurd (omega arith)
 
 -- a test of all numbers from a up is a test of each
 each_within : (test : ℕ → Bool) (a n : ℕ) → list_all test (range_with_len a n) ≡ true → (c : ℕ) → a ≤ c → c < a + n → test c ≡ true

@@ -4,10 +4,12 @@ use Rattle.flex_base.specs.Setup.{Setup}
 use Rattle.flex_base.specs.Devices.{sent_bytes}
 use Rattle.transplant_plan.specs.Shown.{shown}
 use Rattle.transplant_plan.specs.declared.plan.Plan as declared
-use Rattle.flex_base.specs.Unsplit.{unsplit, reach, has_ended}
+use Rattle.flex_base.specs.Unsplit.{Machine, unsplit, reach, has_ended}
+use Rattle.flex_base.specs.declared.event.Event.{Event}
 use Rattle.flex_base.specs.Rounds.{names_played}
 use Rattle.transplant_plan.specs.Split.{Plan, split}
-use Rattle.flex_base.specs.Journal.{console, strip}
+use Rattle.flex_base.specs.Journal.{IsLegal, order_of, console, sent, strip}
+use Rattle.flex_base.proofs.Console.{sent_devices}
 use Rattle.transplant_plan.proofs.Splits.{reach-order_of, split_legal, strip-split-unsplit}
 use Rattle.transplant_plan.proofs.Obeying.{split_obeys}
 use Rattle.flex_base.proofs.EndOfRun.{run_goes_on}
@@ -29,15 +31,27 @@ pub console_is : (plan : Plan) (setup : Setup) (order : List ℕ) → console (j
 unfolding journal_of
 console_is plan setup order = console_devices setup plan (names_played setup order)
 
+-- a journal of a state: what was done, split by the plan
+abbrev pub split_of : declared.Plan → Setup → Machine → List Event
+split_of plan setup u = split (shown plan).engines setup.harts u.events
+
 -- what is left by a run that was played is its outcome
 pub outcome_is : (plan : declared.Plan) (r : Reading) (setup : Setup)
-    → outcome_at plan setup (reach setup (names_played setup r.order)) r.trace ≡ outcome_of_run r (shown plan).engines setup
+    → outcome_at (split_of plan setup (reach setup (names_played setup r.order))) setup (reach setup (names_played setup r.order)) r.trace ≡ outcome_of_run r (shown plan).engines setup
 unfolding journal_of
 outcome_is plan r setup =
     let engines = (shown plan).engines in
     let u = reach setup (names_played setup r.order) in
     ap (λ (said : List ℕ). outcome_with said r.trace (whole_text (settings_of setup) (split engines setup.harts u.events) (tail_of setup u))) (sym (console_is engines setup r.order))
     ∙ ap (outcome_with (console (journal_of engines setup r.order)) r.trace) (sym (trace_text_is engines setup r.order))
+
+-- what is left where a legal journal leads is its console bytes and its trace
+pub outcome_legal : (setup : Setup) (journal : List Event) (name : List ℕ) → IsLegal setup journal
+    → outcome_at journal setup (reach setup (order_of journal)) name ≡ outcome_with (console journal) name (trace_text setup journal)
+unfolding trace_text
+outcome_legal setup journal name legal =
+    let bytes = ap sent legal.events ∙ sent_devices setup (order_of journal) in
+    ap (λ (said : List ℕ). outcome_with said name (trace_text setup journal)) (sym bytes)
 
 -- each run with a hart is whole
 pub run_whole : (plan : Plan) (setup : Setup) (order : List ℕ) → 0 < setup.harts → IsWhole plan setup order

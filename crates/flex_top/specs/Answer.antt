@@ -1,4 +1,4 @@
--- What `solo` answers, and what it leaves.
+-- What `solo` and `run` answer, and what they leave.
 use Rattle.std.specs.Prelude.{◌≡◌, ℕ, true, if◌then◌else◌, nat_lt, List, [], length, Option, None, Some, Result, Ok, Err}
 use Rattle.flex_base.specs.Loaded.{Loaded}
 use Rattle.flex_base.specs.Setup.{Setup}
@@ -163,6 +163,29 @@ outcome_of r plan image input = record { said = []; file = None }
 abbrev pub outcome : Reading → Sources → Outcome
 outcome r files =
     outcome_of r (plan_by r.plan files.plan) (image_from files.image r.settings.ram) (input_from files.input)
+
+-- so of `solo`, whose order is given
+abbrev pub IsOutcome : Reading → Sources → Outcome → Type 0
+IsOutcome r files o = o ≡ outcome r files
+
+-- an outcome of `run`, whose harts make their events in whatever order: a legal journal that obeys the plan and has ended, and
+-- its console bytes and its trace
+pub record IsRunOutcome (r : Reading) (plan : Plan) (setup : Setup) (o : Outcome) : Type 0 where
+  pub journal : List Event
+  pub legal : IsLegal setup journal
+  pub obeys : Obeys plan journal
+  pub ended : has_ended setup (reach setup (order_of journal)) ≡ true
+  pub outcome : o ≡ outcome_with (console journal) r.trace (trace_text setup journal)
+
+-- one of the run of the image and the input that the files mean, under the plan that they mean
+pub record IsOutcomeOfRun (r : Reading) (files : Sources) (o : Outcome) : Type 0 where
+  pub plan : Assignment
+  pub image : Loaded
+  pub input : List ℕ
+  pub plan_is : plan_by r.plan files.plan ≡ Ok plan
+  pub image_is : image_from files.image r.settings.ram ≡ Ok image
+  pub input_is : input_from files.input ≡ Ok input
+  pub of_run : IsRunOutcome r plan.engines (setup_of image input r.settings) o
 
 -- Two plans.
 

@@ -3,7 +3,7 @@ use Rattle.std.specs.Prelude.{◌≡◌, ◌≢◌, ℕ, ◌-◌, ◌^◌, ◌<�
 use Rattle.flex_base.specs.Files.{Counts, Said, SaidPart}
 use Rattle.flex_base.specs.Outside.{Outside, Writes, Says}
 use Rattle.flex_top.specs.Words.{Reading}
-use Rattle.flex_top.specs.Answer.{Sources, sources_among, Outcome, expected, outcome, plan_limit, image_limit, input_limit}
+use Rattle.flex_top.specs.Answer.{Sources, sources_among, Outcome, expected, plan_limit, image_limit, input_limit}
 use Rattle.flex_top.specs.Written.{Becomes, BecomesPart}
 use Rattle.flex_top.specs.declared.status.Status.{Status}
 use Rattle.flex_top.specs.declared.status.Status.TheVariants as status
@@ -71,8 +71,20 @@ pub record LeavesNothing (old new : Outside) : Type 0 where
   pub said : new.said ≡ old.said
   pub written : new.written ≡ old.written
 
--- what `solo` does
-pub record Does (r : Reading) (old : Outside) (answer : Status) (new : Outside) : Type 0 where
+-- all of an outcome that is such a one is left
+pub record LeavesOne (Is : Outcome → Type 0) (old new : Outside) : Type 0 where
+  pub outcome : Outcome
+  pub is : Is outcome
+  pub left : Leaves outcome old new
+
+-- the beginning of one is left
+pub record LeavesPartOfOne (Is : Outcome → Type 0) (old new : Outside) : Type 0 where
+  pub outcome : Outcome
+  pub is : Is outcome
+  pub left : LeavesPart outcome old new
+
+-- what a command does whose files may have these outcomes
+pub record Does (Is : Sources → Outcome → Type 0) (r : Reading) (old : Outside) (answer : Status) (new : Outside) : Type 0 where
   -- the files that it goes by, which are those that can be taken where these are told
   pub files : Sources
   pub told : IfSome old.held (λ held. files ≡ sources_among r held)
@@ -80,9 +92,9 @@ pub record Does (r : Reading) (old : Outside) (answer : Status) (new : Outside) 
   pub answers : Answers (first_file r files) (expected r files) answer
   pub completes : expected r files ≡ status.Ended → IsCalm old.read_faults new.read_faults
       → IsCalm old.write_faults new.write_faults → IsEnded answer
-  -- what is left of their outcome once it has ended, and where a write failed
-  pub ended : answer ≡ status.Ended → Leaves (outcome r files) old new
-  pub cut : answer ≡ status.WriteFault → LeavesPart (outcome r files) old new
+  -- what is left of an outcome of theirs once it has ended, and where a write failed
+  pub ended : answer ≡ status.Ended → LeavesOne (Is files) old new
+  pub cut : answer ≡ status.WriteFault → LeavesPartOfOne (Is files) old new
   -- else nothing is left; never is another file written; files that can be taken stay
   pub nothing : answer ≢ status.Ended → answer ≢ status.WriteFault → LeavesNothing old new
   pub others : Writes old new r.trace (λ was is. Unit {0})

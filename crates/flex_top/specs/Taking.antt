@@ -8,7 +8,11 @@ use Rattle.image_loader.specs.declared.fault.ImageFault.TheVariants as image
 use Rattle.transplant_plan.specs.Assignment.{Assignment}
 use Rattle.transplant_plan.specs.declared.fault.PlanFault.{PlanFault}
 use Rattle.transplant_plan.specs.declared.fault.PlanFault.TheVariants as plan
-use Rattle.flex_top.specs.Answer.{file_among, plan_limit, plan_from, image_limit, image_from, input_limit}
+use Rattle.transplant_plan.specs.Shown.{shown}
+use Rattle.flex_top.specs.Words.{Reading}
+use Rattle.flex_top.specs.Answer.{Sources, file_among, sources_among, plan_limit, plan_from, plan_by, image_limit, image_from, input_limit, input_from, expected}
+use Rattle.flex_top.specs.Does.{Answers, first_file}
+use Rattle.flex_top.specs.declared.sources.Inputs.{Inputs}
 use Rattle.flex_top.specs.declared.status.Status.{Status}
 use Rattle.flex_top.specs.declared.status.Status.TheVariants as status
 
@@ -45,6 +49,18 @@ pub record GivesImage (held : Option Files) (name : List ℕ) (ram : ℕ) (image
 abbrev pub IsPlanRefused : Option Files → Option (List ℕ) → Status → Type 0
 IsPlanRefused held None why = ⊥
 IsPlanRefused held (Some name) why = IsRefused Assignment held (Some name) plan_from why
+
+-- the files that the words name give the plan, the input, and an image with the same start as that of the code
+pub record AreGiven (r : Reading) (held : Option Files) (inputs : Inputs) : Type 0 where
+  pub plan : Gives Assignment held r.plan (plan_by r.plan) (shown inputs.plan)
+  pub image : GivesImage held r.image r.settings.ram inputs.image
+  pub input : Gives (List ℕ) held r.input input_from inputs.input.items
+
+-- one of them is refused, and that is the answer to them
+pub record AreRefused (r : Reading) (held : Option Files) (why : Status) : Type 0 where
+  pub files : Sources
+  pub told : IfSome held (λ told. files ≡ sources_among r told)
+  pub answers : Answers (first_file r files) (expected r files) why
 
 -- a status that refuses a file: one that is too long is so, and want of memory is no refusal of a plan or an image
 abbrev pub IsRefusal : Status → Type 0

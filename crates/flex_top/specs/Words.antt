@@ -8,8 +8,8 @@ use Rattle.flex_top.specs.declared.words.Command.{Command}
 use Rattle.flex_top.specs.declared.words.Given.{Given}
 use Rattle.flex_top.specs.declared.words.Given.TheVariants as as_given
 
--- what `solo` is asked to do: the names of the image and the trace, the settings, the names of the plan and of the console's
--- input where there are any, and the harts that make the next events before the rounds
+-- what `solo` or `run` is asked to do: the names of the image and the trace, the settings, the names of the plan and of the
+-- console's input where there are any, and the harts that make the next events before the rounds
 pub record Reading : Type 0 where
   pub image : List ℕ
   pub trace : List ℕ
@@ -83,11 +83,11 @@ named (first ∷ rest) = Some (Some (first ∷ rest))
 abbrev pub name_option : List ℕ → List (List ℕ) → Option (Option (List ℕ))
 name_option name words = option_of None named (values name words)
 
--- a word that begins with the text of one of the options
-abbrev pub is_option : List ℕ → Bool
-is_option word = starts_with nat_eq word (codes "--harts=") || starts_with nat_eq word (codes "--ram=")
+-- a word that begins with the text of one of the options; `--order=` is one where an order may be given
+abbrev pub is_option : Bool → List ℕ → Bool
+is_option ordered word = starts_with nat_eq word (codes "--harts=") || starts_with nat_eq word (codes "--ram=")
     || starts_with nat_eq word (codes "--budget=") || starts_with nat_eq word (codes "--plan=")
-    || starts_with nat_eq word (codes "--input=") || starts_with nat_eq word (codes "--order=")
+    || starts_with nat_eq word (codes "--input=") || (ordered && starts_with nat_eq word (codes "--order="))
 
 abbrev pub run_settings : ℕ → ℕ → ℕ → Settings
 run_settings harts ram budget = record { harts = harts; ram = ram; budget = budget }
@@ -115,14 +115,23 @@ with_options image trace words = reading_of image trace (number_option (codes "-
     (number_option (codes "--budget=") 8192 262144 words) (name_option (codes "--plan=") words)
     (name_option (codes "--input=") words) (order_option words)
 
-abbrev pub is_solo : List ℕ → List ℕ → List ℕ → Bool
-is_solo command image trace = bytes_eq command (codes "solo") && is_name image && is_name trace
+-- the word of a command, and two names
+abbrev pub is_named : List ℕ → List ℕ → List ℕ → List ℕ → Bool
+is_named name command image trace = bytes_eq command name && is_name image && is_name trace
 
--- the word `solo`, two names, and the options
+-- those of the command of this name, and the options, among which an order may be where it takes one
+abbrev pub reading_by : List ℕ → Bool → List (List ℕ) → Option Reading
+reading_by name ordered (command ∷ image ∷ trace ∷ rest) =
+    if is_named name command image trace && list_all (is_option ordered) rest then with_options image trace rest else None
+reading_by name ordered other = None
+
+-- `solo` takes an order
 abbrev pub reading : List (List ℕ) → Option Reading
-reading (command ∷ image ∷ trace ∷ rest) =
-    if is_solo command image trace && list_all is_option rest then with_options image trace rest else None
-reading other = None
+reading words = reading_by (codes "solo") true words
+
+-- `run` takes none
+abbrev pub run_reading : List (List ℕ) → Option Reading
+run_reading words = reading_by (codes "run") false words
 
 -- a command of the code, as its reading
 abbrev pub reading_of_command : Command → Reading

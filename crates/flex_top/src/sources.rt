@@ -4,10 +4,12 @@ ghost use Rattle.flex_base.specs.Outside.{OnlyReads};
 ghost use Rattle.transplant_plan.specs.Assignment.{Assignment};
 ghost use Rattle.transplant_plan.specs.Shown.{shown};
 ghost use Rattle.flex_top.specs.Answer.{plan_from, plan_by, image_from, input_from};
-ghost use Rattle.flex_top.specs.Taking.{Gives, IsRefused, IsPlanRefused, GivesImage, IsRefusal, answer_to, answer_to_plan};
+ghost use Rattle.flex_top.specs.Taking.{Gives, IsRefused, IsPlanRefused, GivesImage, AreGiven, AreRefused, IsRefusal, answer_to, answer_to_plan};
+ghost use Rattle.flex_top.specs.Words.{reading_of_command, IsLimited};
 
 use crate::image::image_of;
 use crate::status::Status;
+use crate::words::Command;
 use flex_base::{Image, Outer, TakeFault};
 use image_loader::ImageFault;
 use std::alloc::Global;
@@ -22,9 +24,47 @@ const IMAGE_LIMIT: u64 = 268_435_456;
 // The console's input has at most 1 MiB.
 const INPUT_LIMIT: u64 = 1_048_576;
 
+/// What the files of a command are.
+#[derive(Drop)]
+pub(crate) struct Inputs {
+    pub(crate) plan: Plan,
+    pub(crate) image: Image,
+    // The console's input.
+    pub(crate) input: Vec<u8>,
+}
+
+// Takes the files that a command names: the plan's, then the image's, then the input's. The error is
+// the first refusal.
+pub(crate) fn take_inputs<O: Outer>(
+    alloc: Global,
+    command: &Command,
+    outer: &mut O,
+) -> Result<Inputs, Status>
+    requires { IsLimited command.now }
+    ensures given { IfOk result (AreGiven (reading_of_command command.now) (O.outside outer.old).held) }
+    ensures fits { IfOk result (λ inputs. image_fits command.now.settings.ram inputs.image ≡ true) }
+    ensures refused { IfErr result (AreRefused (reading_of_command command.now) (O.outside outer.old).held) }
+    ensures refusal { IfErr result IsRefusal }
+    ensures frame { OnlyReads (O.outside outer.old) (O.outside outer.new) (IsErrOf result Status.ReadFault) }
+{
+    let plan = match take_plan(alloc, command.plan, outer) {
+        Ok(plan) => plan,
+        Err(refusal) => return Err(refusal),
+    };
+    let image = match take_image(alloc, command.image, command.settings.ram, outer) {
+        Ok(image) => image,
+        Err(refusal) => return Err(refusal),
+    };
+    let input = match take_input(alloc, command.input, outer) {
+        Ok(input) => input,
+        Err(refusal) => return Err(refusal),
+    };
+    Ok(Inputs { plan, image, input })
+}
+
 // Takes the file of this name, and reads the plan that it says; the plan is the default one where
 // there is no name.
-pub(crate) fn take_plan<O: Outer>(
+fn take_plan<O: Outer>(
     alloc: Global,
     name: Option<&str>,
     outer: &mut O,
@@ -75,7 +115,7 @@ fn answer_to_plan(fault: PlanFault) -> Status
 }
 
 // Takes the file of this name, and loads the image that it is in so many bytes of RAM.
-pub(crate) fn take_image<O: Outer>(
+fn take_image<O: Outer>(
     alloc: Global,
     name: &str,
     ram: u64,
@@ -113,7 +153,7 @@ fn answer_to(fault: ImageFault) -> Status
 }
 
 // Takes the file of this name as the console's input, which is empty where there is no name.
-pub(crate) fn take_input<O: Outer>(
+fn take_input<O: Outer>(
     alloc: Global,
     name: Option<&str>,
     outer: &mut O,

@@ -2,6 +2,7 @@ mod device_programs;
 mod images;
 mod plans;
 mod programs;
+mod runs;
 
 ghost use Rattle.std.specs.Prelude.{◌≡◌, map, Some, IsSomeAnd, string_bytes};
 ghost use Rattle.flex_top.specs.Words.{Reading, reading};

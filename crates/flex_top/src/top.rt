@@ -1,21 +1,24 @@
 ghost use Rattle.std.specs.Prelude.{◌≡◌, ◌≢◌, ◌↔◌, ◌<◌, List, ℕ, map, Some, None, string_bytes};
 ghost use Rattle.flex_base.specs.Setup.{Setup};
 ghost use Rattle.flex_base.specs.EndOfRun.{GoesOn};
-ghost use Rattle.flex_top.specs.Words.{Reading, reading};
+ghost use Rattle.flex_top.specs.Words.{Reading, reading, run_reading};
 ghost use Rattle.transplant_plan.specs.Split.{Plan};
-ghost use Rattle.flex_top.specs.Answer.{IsWhole, SplitsAlike};
+ghost use Rattle.flex_top.specs.Answer.{IsOutcome, IsOutcomeOfRun, IsWhole, SplitsAlike};
 ghost use Rattle.flex_top.specs.Does.{Does, TellsFaults};
 
+use crate::run_command::run;
 use crate::solo_command::solo;
-use crate::sources::{take_image, take_input, take_plan};
+use crate::sources::take_inputs;
 use crate::status::Status;
-use crate::words::read_words;
-use flex_base::Outer;
+use crate::words::{read_run, read_solo};
+use flex_base::{Gate, Outer};
 use image_loader::ImageFault;
 use std::alloc::Global;
+use std::sync::Wait;
+use std::thread::Threads;
 use transplant_plan::PlanFault;
 
-/// Does what the words ask for; the program's name isn't among them.
+/// Does what the words ask for but `run`; the program's name isn't among them.
 ///
 /// `solo IMAGE TRACE`, which options may follow, plays the harts over the image in the file of that
 /// name, in the given order and then in rounds until the run has ended, with the file that
@@ -28,7 +31,7 @@ use transplant_plan::PlanFault;
 pub fn flex_top<O: Outer>(alloc: Global, words: &[String], outer: &mut O) -> Status
     ensures usage { (result ≡ Status.Usage) ↔ (reading (map string_bytes words.now) ≡ None) }
     ensures does { (r : Reading) → reading (map string_bytes words.now) ≡ Some r
-        → Does r (O.outside outer.old) result (O.outside outer.new) }
+        → Does (IsOutcome r) r (O.outside outer.old) result (O.outside outer.new) }
     ensures idle { reading (map string_bytes words.now) ≡ None → O.outside outer.new ≡ O.outside outer.old }
     ensures faults { TellsFaults (O.outside outer.old) result (O.outside outer.new) }
 
@@ -45,20 +48,42 @@ pub fn flex_top<O: Outer>(alloc: Global, words: &[String], outer: &mut O) -> Sta
     // and the lines after them are the same.
     ensures split { (r : Reading) (setup : Setup) (one other : Plan) → SplitsAlike r setup one other }
 {
-    let Some(command) = read_words(words) else {
+    let Some(command) = read_solo(words) else {
         return Status::Usage;
     };
-    let plan = match take_plan(alloc, command.plan, outer) {
-        Ok(plan) => plan,
-        Err(refusal) => return refusal,
+    match take_inputs(alloc, &command, outer) {
+        Ok(inputs) => solo(alloc, &command, inputs, outer),
+        Err(refusal) => refusal,
+    }
+}
+
+/// Does the command `run`; the program's name isn't among the words. It may wait.
+///
+/// `run IMAGE TRACE` takes the options of `solo` but `--order=`. All harts run on threads, in whatever
+/// order these take. What is said and written is that of a legal run that obeys the plan and has
+/// ended. In all else it does what `solo` does.
+pub fn flex_run<R: Threads + Wait + Sync, O: Outer, G: Gate>(
+    rt: &R,
+    alloc: Global,
+    words: &[String],
+    outer: &mut O,
+    gate: &G,
+) -> Status
+    ensures usage { (result ≡ Status.Usage) ↔ (run_reading (map string_bytes words.now) ≡ None) }
+    ensures does { (r : Reading) → run_reading (map string_bytes words.now) ≡ Some r
+        → Does (IsOutcomeOfRun r) r (O.outside outer.old) result (O.outside outer.new) }
+    ensures idle { run_reading (map string_bytes words.now) ≡ None → O.outside outer.new ≡ O.outside outer.old }
+    ensures faults { TellsFaults (O.outside outer.old) result (O.outside outer.new) }
+
+    // Want of memory is no refusal of the image or of the plan.
+    ensures memory { result ≢ Status.ImageRefused ImageFault.OutOfMemory }
+    ensures plan_memory { result ≢ Status.PlanRefused PlanFault.OutOfMemory }
+{
+    let Some(command) = read_run(words) else {
+        return Status::Usage;
     };
-    let image = match take_image(alloc, command.image, command.settings.ram, outer) {
-        Ok(image) => image,
-        Err(refusal) => return refusal,
-    };
-    let input = match take_input(alloc, command.input, outer) {
-        Ok(input) => input,
-        Err(refusal) => return refusal,
-    };
-    solo(alloc, &command, plan, image, input, outer)
+    match take_inputs(alloc, &command, outer) {
+        Ok(inputs) => run(rt, alloc, &command, inputs, outer, gate),
+        Err(refusal) => refusal,
+    }
 }

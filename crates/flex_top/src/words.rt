@@ -1,11 +1,11 @@
 ghost use Rattle.std.specs.Prelude.{◌≡◌, ◌<◌, ◌≤◌, List, ℕ, [], ◌∷◌, ◌++◌, map, length, Some, None, All, option_map, IfOk, IfSome, if◌then◌else◌, string_bytes};
 ghost use Rattle.std.specs.List.{list_all};
-ghost use Rattle.flex_top.specs.Words.{reading, with_options, reading_of_command, is_name, is_option, is_digit, number_of, number, hart_of, is_order, value_of, values, number_option, name_option, named, order_option, is_solo, IsGiven, IsLimited};
+ghost use Rattle.flex_top.specs.Words.{reading, run_reading, with_options, reading_of_command, is_name, is_option, is_digit, number_of, number, hart_of, is_order, value_of, values, number_option, name_option, named, order_option, is_named, reading_by, IsGiven, IsLimited};
 
 use flex_base::Settings;
 use std::alloc::{AllocError, Global};
 
-/// What `solo` is asked to do.
+/// What `solo` or `run` is asked to do.
 #[derive(Clone, Copy, Debug)]
 pub struct Command<'a> {
     /// The name of the image's file.
@@ -19,7 +19,7 @@ pub struct Command<'a> {
     /// The name of the file that is the console's input; where there is none, the input is empty.
     pub input: Option<&'a str>,
     /// Which harts make the next events before the rounds: at most 65,536 characters, each of
-    /// which names a hart.
+    /// which names a hart. Empty for `run`.
     pub order: &'a [u8],
 }
 
@@ -36,14 +36,30 @@ const MEBIBYTE: u64 = 1_048_576;
 /// The command that these words are: `solo IMAGE TRACE`, and then any of the options `--harts=`,
 /// `--ram=`, `--budget=`, `--plan=`, `--input=` and `--order=`, each at most once. Other words have no
 /// reading.
-pub fn read_words(words: &[String]) -> Option<Command<'_>>
+pub fn read_solo(words: &[String]) -> Option<Command<'_>>
     ensures reading { option_map reading_of_command result ≡ reading (map string_bytes words.now) }
+    ensures limits { IfSome result IsLimited }
+{
+    read_words("solo", true, words)
+}
+
+/// The same of `run IMAGE TRACE`, which takes no `--order=`.
+pub fn read_run(words: &[String]) -> Option<Command<'_>>
+    ensures reading { option_map reading_of_command result ≡ run_reading (map string_bytes words.now) }
+    ensures limits { IfSome result IsLimited }
+{
+    read_words("run", false, words)
+}
+
+// A command of this name, where an order may be given or not.
+fn read_words<'a>(name: &str, ordered: bool, words: &'a [String]) -> Option<Command<'a>>
+    ensures reading { option_map reading_of_command result ≡ reading_by name.now ordered (map string_bytes words.now) }
     ensures limits { IfSome result IsLimited }
 {
     match words {
         [command, image, trace, rest @ ..] => {
             let (image, trace) = (image.as_str(), trace.as_str());
-            if is_solo(command.as_str(), image, trace) && are_options(rest) {
+            if is_named(name, command.as_str(), image, trace) && are_options(ordered, rest) {
                 with_options(image, trace, rest)
             } else {
                 None
@@ -53,10 +69,10 @@ pub fn read_words(words: &[String]) -> Option<Command<'_>>
     }
 }
 
-fn is_solo(command: &str, image: &str, trace: &str) -> bool
-    ensures { result ≡ is_solo command.now image.now trace.now }
+fn is_named(name: &str, command: &str, image: &str, trace: &str) -> bool
+    ensures { result ≡ is_named name.now command.now image.now trace.now }
 {
-    command == "solo" && is_name(image) && is_name(trace)
+    command == name && is_name(image) && is_name(trace)
 }
 
 fn is_name(word: &str) -> bool
@@ -68,26 +84,26 @@ fn is_name(word: &str) -> bool
     }
 }
 
-fn are_options(words: &[String]) -> bool
-    ensures { result ≡ list_all is_option (map string_bytes words.now) }
+fn are_options(ordered: bool, words: &[String]) -> bool
+    ensures { result ≡ list_all (is_option ordered) (map string_bytes words.now) }
 {
     for word in words {
-        if !is_option(word.as_bytes()) {
+        if !is_option(ordered, word.as_bytes()) {
             return false;
         }
     }
     true
 }
 
-fn is_option(word: &[u8]) -> bool
-    ensures { result ≡ is_option word.now }
+fn is_option(ordered: bool, word: &[u8]) -> bool
+    ensures { result ≡ is_option ordered word.now }
 {
     word.starts_with(b"--harts=")
         || word.starts_with(b"--ram=")
         || word.starts_with(b"--budget=")
         || word.starts_with(b"--plan=")
         || word.starts_with(b"--input=")
-        || word.starts_with(b"--order=")
+        || (ordered && word.starts_with(b"--order="))
 }
 
 fn with_options<'a>(image: &'a str, trace: &'a str, words: &'a [String]) -> Option<Command<'a>>

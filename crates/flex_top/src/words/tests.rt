@@ -58,7 +58,7 @@ fn assert_reading(
         ram: MEBIBYTE.wrapping_mul(mebibytes),
         budget,
     };
-    let command = read_words(&words);
+    let command = read_solo(&words);
     assert!(rt;
         command.is_some_and(|command| is_command(&command, settings, order)),
         "{line}"
@@ -132,7 +132,7 @@ solo img out --order=0,1";
 #[test]
 fn refuses_other_words(rt: HostRuntime) -> Result<(), AllocError> {
     let none: [String; 0] = [];
-    assert!(rt; read_words(&none).is_none());
+    assert!(rt; read_solo(&none).is_none());
     for line in NO_READING.split('\n') {
         assert_refused(&rt, rt.alloc(), line)?;
     }
@@ -144,7 +144,7 @@ fn refuses_other_words(rt: HostRuntime) -> Result<(), AllocError> {
 
 fn assert_refused(rt: &impl Abort, alloc: Global, line: &str) -> Result<(), AllocError> {
     let words = words_of(alloc, line)?;
-    assert!(rt; read_words(&words).is_none(), "a reading of {line}");
+    assert!(rt; read_solo(&words).is_none(), "a reading of {line}");
     Ok(())
 }
 
@@ -162,12 +162,12 @@ fn words_with_order(alloc: Global, characters: u32) -> Result<Vec<String>, Alloc
 #[test]
 fn limits_the_order(rt: HostRuntime) -> Result<(), AllocError> {
     let words = words_with_order(rt.alloc(), 65_536)?;
-    match read_words(&words) {
+    match read_solo(&words) {
         Some(command) => assert_eq!(rt; command.order.len(), 65_536),
         None => assert!(rt; false, "no reading"),
     }
     let more = words_with_order(rt.alloc(), 65_537)?;
-    assert!(rt; read_words(&more).is_none());
+    assert!(rt; read_solo(&more).is_none());
     Ok(())
 }
 
@@ -201,7 +201,7 @@ fn assert_names(
     input: Option<&str>,
 ) -> Result<(), AllocError> {
     let words = words_of(alloc, line)?;
-    let command = read_words(&words);
+    let command = read_solo(&words);
     assert!(rt;
         command.is_some_and(|command| command.plan == plan && command.input == input),
         "{line}"

@@ -4,4 +4,4 @@ use Rattle.flex_top.specs.Words.{is_option}
 use Rattle.flex_top.proofs.words.are_options.Given as goal
 
 abbrev pub invariant-loop-word : goal.invariant-loop-word
-invariant-loop-word l = list_all is_option (map string_bytes (take l.word-index l.words)) ≡ true
+invariant-loop-word l = list_all (is_option l.ordered) (map string_bytes (take l.word-index l.words)) ≡ true
