@@ -1,4 +1,4 @@
-use Rattle.std.proofs.Common.{rules, ◌≡◌, ap, ◌∙◌}
+use Rattle.std.proofs.Common.{rules, ap, ◌∙◌}
 use Rattle.access_record.specs.Rule.{occurrences}
 use Rattle.mem_banks.proofs.Plains.{none_above}
 use Rattle.mem_banks.proofs.tests.threads.add_workers.Goals as goal

@@ -1,4 +1,4 @@
-use Rattle.std.proofs.Common.{rules, ◌≡◌, sym, ◌∙◌}
+use Rattle.std.proofs.Common.{rules, sym, ◌∙◌}
 use Rattle.mem_banks.proofs.Trying.{each_has}
 use Rattle.mem_banks.proofs.tests.threads.run_named.Goals as goal
 
