@@ -20,7 +20,7 @@ fn image_of(alloc: Global, words: &[(usize, u32)], length: usize) -> Result<Vec<
     for place in 0..length {
         let mut here = 0_u32;
         for (at, word) in words {
-            if *at == 4 * place {
+            if *at / 4 == place {
                 here = *word;
             }
         }
