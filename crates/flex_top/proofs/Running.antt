@@ -1,5 +1,5 @@
 -- The run of a new bus is that of its image, its settings and its plan.
-use Rattle.std.proofs.Common.{◌≡◌, ℕ, ◌+◌, ◌-◌, ◌*◌, ◌≤◌, true, List, ap, sym, subst, ◌∙◌, arith}
+use Rattle.std.proofs.Common.{◌≡◌, ℕ, ◌+◌, ◌*◌, ◌≤◌, true, List, ap, sym, subst, ◌∙◌, arith}
 use Rattle.flex_base.specs.Limits.{is_lawful}
 use Rattle.flex_base.specs.Loaded.{Loaded, image_fits}
 use Rattle.flex_base.specs.declared.settings.Settings.{Settings}

@@ -64,11 +64,7 @@ pub(crate) fn take_inputs<O: Outer>(
 
 // Takes the file of this name, and reads the plan that it says; the plan is the default one where
 // there is no name.
-fn take_plan<O: Outer>(
-    alloc: Global,
-    name: Option<&str>,
-    outer: &mut O,
-) -> Result<Plan, Status>
+fn take_plan<O: Outer>(alloc: Global, name: Option<&str>, outer: &mut O) -> Result<Plan, Status>
     ensures gives { IfOk result (λ plan. Gives Assignment (O.outside outer.old).held
         (option_map (λ text. text.now) name.entry) (plan_by (option_map (λ text. text.now) name.entry)) (shown plan)) }
     ensures refused { IfErr result (λ why.
@@ -115,12 +111,7 @@ fn answer_to_plan(fault: PlanFault) -> Status
 }
 
 // Takes the file of this name, and loads the image that it is in so many bytes of RAM.
-fn take_image<O: Outer>(
-    alloc: Global,
-    name: &str,
-    ram: u64,
-    outer: &mut O,
-) -> Result<Image, Status>
+fn take_image<O: Outer>(alloc: Global, name: &str, ram: u64, outer: &mut O) -> Result<Image, Status>
     requires { 0 < ram }
     ensures gives { IfOk result (λ image. GivesImage (O.outside outer.old).held name.now ram image) }
     ensures fits { IfOk result (λ image. image_fits ram image ≡ true) }
@@ -153,11 +144,7 @@ fn answer_to(fault: ImageFault) -> Status
 }
 
 // Takes the file of this name as the console's input, which is empty where there is no name.
-fn take_input<O: Outer>(
-    alloc: Global,
-    name: Option<&str>,
-    outer: &mut O,
-) -> Result<Vec<u8>, Status>
+fn take_input<O: Outer>(alloc: Global, name: Option<&str>, outer: &mut O) -> Result<Vec<u8>, Status>
     ensures gives { IfOk result (λ input.
         Gives (List ℕ) (O.outside outer.old).held (option_map (λ text. text.now) name.entry) input_from input.items) }
     ensures refused { IfErr result (λ why.

@@ -1,4 +1,5 @@
 mod device_programs;
+mod gates;
 mod images;
 mod plans;
 mod programs;

@@ -19,15 +19,17 @@ const SAYING: [u8; 36] = [
 ];
 
 // The outside where `img` is this image, `in` and `plan` are these files, and the calls of these numbers fail.
-fn outer_of(
-    alloc: Global,
-    image: &[u8],
-    failing: &[u64],
-) -> Result<MemoryOuter, AllocError> {
+fn outer_of(alloc: Global, image: &[u8], failing: &[u64]) -> Result<MemoryOuter, AllocError> {
     let mut files = Vec::new(alloc);
     files.push((Text::of(alloc, b"img")?, Vec::from_slice(alloc, image)?))?;
-    files.push((Text::of(alloc, b"few")?, Vec::from_slice(alloc, b"banks = 1\npipes = 1")?))?;
-    files.push((Text::of(alloc, b"host")?, Vec::from_slice(alloc, b"engine.alu = 'host'")?))?;
+    files.push((
+        Text::of(alloc, b"few")?,
+        Vec::from_slice(alloc, b"banks = 1\npipes = 1")?,
+    ))?;
+    files.push((
+        Text::of(alloc, b"host")?,
+        Vec::from_slice(alloc, b"engine.alu = 'host'")?,
+    ))?;
     let failing = Vec::from_slice(alloc, failing)?;
     Ok(MemoryOuter::new(alloc, files, failing))
 }
@@ -119,7 +121,10 @@ fn answers_run_by_the_words(rt: HostRuntime) -> Result<(), Fail> {
     ] {
         let (answer, outer) = run_line(&rt, rt.alloc(), &IMAGE, line, &[failing])?;
         assert!(rt; status_code(&answer) == status, "{line}");
-        assert!(rt; outer.written("out").is_some() == (status == ENDED || failing == 2), "{line}");
+        assert!(rt;
+            outer.written("out").is_some() == (status == ENDED || failing == 2),
+            "{line}"
+        );
     }
     Ok(())
 }
