@@ -1,8 +1,3 @@
-ghost use Rattle.std.specs.Prelude.{◌≡◌, ◌≤◌, MatchOption, ℕ};
-ghost use Rattle.context.specs.Contexts.{IsElsewhere};
-ghost use Rattle.context.specs.Runs.{MakesNone};
-ghost use Rattle.pipeline.specs.Pipes.{IsDue, latch_for, without_place, flight_after};
-
 use context::{HartContext, Wants};
 use flex_base::{Class, Engine};
 
@@ -16,26 +11,57 @@ pub(crate) const END: u8 = 5;
 /// An instruction in flight.
 #[derive(Clone, Copy, Debug, PartialEq, Eq)]
 pub struct Flight {
-    /// The place of its hart among those that are held, of which the one that was admitted first has
-    /// place 0.
+    /// The place of its hart among those that are held.
     pub place: u8,
     /// The latch in which its next event is made, by its number from select, which is 0, to end.
     pub due: u8,
 }
 
+// What is in a latch, in a byte: the place of the hart and the latch in which its next event is made.
+#[derive(Clone, Copy)]
+pub(crate) struct Slot(u8);
+
+pub(crate) const EMPTY: Slot = Slot(255);
+
+impl Slot {
+    pub(crate) fn new(place: u8, due: u8) -> Slot {
+        Slot(place * 8 + due)
+    }
+
+    pub(crate) fn place(self) -> u8 {
+        self.0 / 8
+    }
+
+    // The latch in which the event is made, 7 where the latch is empty.
+    pub(crate) fn due(self) -> u8 {
+        self.0 % 8
+    }
+
+    pub(crate) fn is_empty(self) -> bool {
+        self.0 == 255
+    }
+
+    pub(crate) fn flight(self) -> Option<Flight> {
+        if self.is_empty() {
+            return None;
+        }
+        Some(Flight {
+            place: self.place(),
+            due: self.due(),
+        })
+    }
+}
+
 // The latch in which a hart's next event is made, where it is the work of the engine that it is in.
-pub(crate) fn due_latch(context: &HartContext) -> Option<u8>
-    ensures due { MatchOption result (MakesNone context.now) (λ latch. IsDue context.now latch) }
-{
+#[inline(always)]
+pub(crate) fn due_latch(context: &HartContext) -> Option<u8> {
     match context.wants_here() {
         Some(wants) => Some(latch_for(wants)),
         None => None,
     }
 }
 
-fn latch_for(wants: Wants) -> u8
-    ensures latch { result ≡ latch_for wants }
-{
+fn latch_for(wants: Wants) -> u8 {
     match wants {
         Wants::Ask(Class::Fetch) => FETCH,
         Wants::Ask(_) => MEMORY,
@@ -46,9 +72,7 @@ fn latch_for(wants: Wants) -> u8
 }
 
 // The other engine to which the plan gives what a hart wants.
-pub(crate) fn other_engine(context: &HartContext) -> Option<Engine>
-    ensures other { MatchOption result ((to : Engine) → IsElsewhere to context.now → ⊥) (λ to. IsElsewhere to context.now) }
-{
+pub(crate) fn other_engine(context: &HartContext) -> Option<Engine> {
     if context.round_left() == 0 {
         return None;
     }
@@ -61,37 +85,30 @@ pub(crate) fn other_engine(context: &HartContext) -> Option<Engine>
 }
 
 // What is in a latch once the hart at this place is taken out, so that those after it move up.
-pub(crate) fn without(latch: Option<Flight>, place: u8) -> Option<Flight>
-    ensures without { result ≡ without_place place latch }
-{
-    match latch {
-        Some(flight) => {
-            if flight.place == place {
-                return None;
-            }
-            if flight.place < place {
-                return Some(flight);
-            }
-            Some(Flight {
-                place: flight.place - 1,
-                due: flight.due,
-            })
-        }
-        None => None,
+pub(crate) fn without(slot: Slot, place: u8) -> Slot {
+    if slot.is_empty() {
+        return slot;
     }
+    let at = slot.place();
+    if at == place {
+        return EMPTY;
+    }
+    if at < place {
+        return slot;
+    }
+    Slot::new(at - 1, slot.due())
 }
 
 // After an event in a latch the instruction goes on where its next event is made in a later one.
-pub(crate) fn goes_on(place: u8, latch: u8, due: Option<u8>) -> Option<Flight>
-    ensures on { result ≡ flight_after place latch due }
-{
-    match due {
+#[inline(always)]
+pub(crate) fn goes_on(place: u8, latch: u8, context: &HartContext) -> Slot {
+    match due_latch(context) {
         Some(due) => {
             if due <= latch {
-                return None;
+                return EMPTY;
             }
-            Some(Flight { place, due })
+            Slot::new(place, due)
         }
-        None => None,
+        None => EMPTY,
     }
 }

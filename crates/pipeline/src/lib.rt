@@ -7,9 +7,11 @@
 #![tactic(auto)]
 
 mod flight;
+mod latches;
 mod pipeline;
 
 pub use flight::Flight;
+pub use latches::Latches;
 pub use pipeline::Pipeline;
 
 #[cfg(test)]

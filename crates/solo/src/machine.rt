@@ -16,13 +16,17 @@ ghost use Rattle.solo.specs.Room.{are_empty};
 
 use crate::room::{Parts, empty_logs, take_apart};
 use access_record::Founder;
-use context::{HartContext, Wants, Went};
+use context::{HartContext, Wants};
 use flex_base::{Engine, HartId, Image, Settings, Stop};
+use host_sim::HostSim;
 use hart_story::Hart;
 use journal::HartLog;
 use mem_banks::{Ended, PlainBus};
+use micro_kernel::Kernel;
+use pipeline::Latches;
 use std::alloc::{AllocError, Global};
 use std::marker::Model;
+use std::slice;
 use transplant_plan::Plan;
 
 /// All harts of a run on one thread. It must be spent, by `finish`.
@@ -136,8 +140,14 @@ impl SoloMachine {
             → IsAt setup (reach_from setup u order.now) self.new }
         ensures plan { self.new.plan ≡ self.old.plan }
     {
+        let mut latches = Latches::new();
+        let mut last = 0;
         for h in order {
-            self.next(*h);
+            if *h != last {
+                latches = Latches::new();
+                last = *h;
+            }
+            self.next(&mut latches, *h);
         }
     }
 
@@ -258,13 +268,13 @@ impl SoloMachine {
     }
 
     // The hart of this number makes its next event. A number without a hart is passed over.
-    fn next(&mut self, h: u8)
+    fn next(&mut self, latches: &mut Latches, h: u8)
         requires at { (setup : Setup) × (u : Machine) × IsAt setup u self.old }
         ensures at { (setup : Setup) (u : Machine) → IsAt setup u self.old → IsAt setup (step setup u h) self.new }
         ensures plan { self.new.plan ≡ self.old.plan }
     {
         if (h as usize) < self.count() {
-            self.step(h as usize);
+            self.step(latches, h as usize);
         }
     }
 
@@ -291,8 +301,9 @@ impl SoloMachine {
         ensures at { (setup : Setup) (u : Machine) → IsAt setup u self.old → IsTurned setup u h self.new }
         ensures plan { self.new.plan ≡ self.old.plan }
     {
+        let mut latches = Latches::new();
         'turn: for _ in 0..self.most_events() {
-            match self.step(h) {
+            match self.step(&mut latches, h) {
                 Step::Accessed => {}
                 Step::Ended => return,
                 Step::Rested => return,
@@ -302,55 +313,122 @@ impl SoloMachine {
 
     // Makes the next event of a hart, where there is one, with the handover before it where one is
     // due. A hart that waits makes a pulse, and only once the devices have woken it.
-    fn step(&mut self, h: usize) -> Step
-        requires hart { h < self.old.settings.harts }
-        requires at { (setup : Setup) × (u : Machine) × IsAt setup u self.old }
-        ensures after { (setup : Setup) (u : Machine) → IsAt setup u self.old → AfterStep setup u h result self.new }
-        ensures plan { self.new.plan ≡ self.old.plan }
+    #[inline(always)]
+    fn step(&mut self, latches: &mut Latches, h: usize) -> Step
     {
-        match self.contexts[h].go(&mut self.bus) {
-            Went::Accessed => Step::Accessed,
-            Went::Ended => Step::Ended,
-            Went::Elsewhere(engine) => self.go_over(h, engine),
-            Went::Parked => self.wake(h),
-            Went::Over => Step::Rested,
+        if latches.is_empty() {
+            let context = &self.contexts[h];
+            match context.engine() {
+                Engine::Pipe => {
+                    if !latches.lay(0, context) {
+                        return self.elsewhere(latches, h);
+                    }
+                }
+                Engine::Kernel => return self.in_kernel(latches, h),
+                Engine::Host => return self.in_host(latches, h),
+            }
+        }
+        self.in_pipe(latches, h)
+    }
+
+    #[inline(always)]
+    fn in_pipe(&mut self, latches: &mut Latches, h: usize) -> Step
+    {
+        let context = slice::from_mut(&mut self.contexts[h]);
+        for _ in 0..6 {
+            let made = latches.advance(context, &mut self.bus);
+            if made.ends != 0 {
+                return Step::Ended;
+            }
+            if made.accesses != 0 {
+                return Step::Accessed;
+            }
+        }
+        unreachable!()
+    }
+
+    #[inline(never)]
+    fn in_kernel(&mut self, latches: &mut Latches, h: usize) -> Step
+    {
+        let context = &mut self.contexts[h];
+        match context.wants_here() {
+            Some(wants) => {
+                Kernel::one_in_place(context, &mut self.bus);
+                came(wants)
+            }
+            None => self.elsewhere(latches, h),
+        }
+    }
+
+    #[inline(never)]
+    fn in_host(&mut self, latches: &mut Latches, h: usize) -> Step
+    {
+        let context = &mut self.contexts[h];
+        match context.wants_here() {
+            Some(wants) => {
+                HostSim::one_in_place(context, &mut self.bus);
+                came(wants)
+            }
+            None => self.elsewhere(latches, h),
+        }
+    }
+
+    // A hart that makes no event in its engine.
+    #[cold]
+    fn elsewhere(&mut self, latches: &mut Latches, h: usize) -> Step
+    {
+        match self.contexts[h].wants() {
+            Wants::Ask(_) => self.go_over(latches, h),
+            Wants::Finish(_) => self.go_over(latches, h),
+            Wants::Parked => self.wake(h),
+            Wants::Over => Step::Rested,
         }
     }
 
     // Hands a hart over to the engine of its next event, and makes the event there.
     #[cold]
-    fn go_over(&mut self, h: usize, engine: Engine) -> Step
-        requires hart { h < self.old.settings.harts }
-        requires at { (setup : Setup) × (u : Machine) × IsAt setup u self.old }
-        requires elsewhere { (other : Context) → IsElsewhere engine (slice_index_or self.old.contexts h other) }
-        ensures after { (setup : Setup) (u : Machine) → IsAt setup u self.old → AfterStep setup u h result self.new }
-        ensures plan { self.new.plan ≡ self.old.plan }
+    fn go_over(&mut self, latches: &mut Latches, h: usize) -> Step
     {
         let context = &mut self.contexts[h];
+        let engine = context.wanted_engine();
         context.move_to(&mut self.bus, engine);
-        match context.go(&mut self.bus) {
-            Went::Accessed => Step::Accessed,
-            Went::Ended => Step::Ended,
-            Went::Elsewhere(_) => unreachable!(),
-            Went::Parked => unreachable!(),
-            Went::Over => unreachable!(),
+        match engine {
+            Engine::Pipe => {
+                let left = context.round_left();
+                *latches = Latches::new();
+                latches.lay(0, context);
+                latches.advance(slice::from_mut(context), &mut self.bus);
+                if context.round_left() < left { Step::Ended } else { Step::Accessed }
+            }
+            Engine::Kernel => {
+                let left = context.round_left();
+                Kernel::one_in_place(context, &mut self.bus);
+                if context.round_left() < left { Step::Ended } else { Step::Accessed }
+            }
+            Engine::Host => {
+                let left = context.round_left();
+                HostSim::one_in_place(context, &mut self.bus);
+                if context.round_left() < left { Step::Ended } else { Step::Accessed }
+            }
         }
     }
 
     // A hart that waits makes its pulse, where the devices have woken it.
     #[cold]
     fn wake(&mut self, h: usize) -> Step
-        requires hart { h < self.old.settings.harts }
-        requires at { (setup : Setup) × (u : Machine) × IsAt setup u self.old }
-        requires parked { (other : Context) → IsWanting (slice_index_or self.old.contexts h other) Wants.Parked }
-        ensures after { (setup : Setup) (u : Machine) → IsAt setup u self.old → AfterStep setup u h result self.new }
-        ensures plan { self.new.plan ≡ self.old.plan }
     {
         if self.contexts[h].wake(&mut self.bus) {
             Step::Accessed
         } else {
             Step::Rested
         }
+    }
+}
+
+fn came(wants: Wants) -> Step {
+    match wants {
+        Wants::Finish(_) => Step::Ended,
+        _ => Step::Accessed,
     }
 }
 
