@@ -1,5 +1,5 @@
 -- What contracts see of a pipe.
-use Rattle.std.specs.Prelude.{◌≡◌, ◌≢◌, ◌⊎◌, ℕ, zero, suc, ◌+◌, ◌-◌, ◌<◌, ◌≤◌, Bool, true, false, ◌||◌, if◌then◌else◌, nat_lt, nat_le, nat_eq, min, List, [], ◌∷◌, ◌++◌, map, take, reverse, length, slice_index_or, slice_set, Option, None, Some}
+use Rattle.std.specs.Prelude.{◌≡◌, ◌≢◌, ◌⊎◌, ℕ, zero, suc, ◌+◌, ◌-◌, ◌/◌, ◌%◌, ◌<◌, ◌≤◌, Bool, true, false, ◌||◌, if◌then◌else◌, nat_lt, nat_le, nat_eq, min, List, [], ◌∷◌, ◌++◌, map, take, drop, reverse, length, slice_index_or, slice_set, Option, None, Some}
 use Rattle.std.specs.List.{All}
 use Rattle.flex_base.specs.declared.class.Class.{Class}
 use Rattle.flex_base.specs.declared.class.Class.TheVariants as class
@@ -11,8 +11,9 @@ use Rattle.context.specs.declared.wants.Wants.{Wants}
 use Rattle.context.specs.declared.wants.Wants.TheVariants as wants
 use Rattle.context.specs.Obeying.{IsFor}
 use Rattle.context.specs.Runs.{MakesNone}
-use Rattle.context.specs.Contexts.{Context, plan_of, IsWanting, IsWantedIn, IsOn, IsSame, IsElsewhere, Steps}
+use Rattle.context.specs.Contexts.{Context, plan_of, IsWanting, IsWantedIn, IsOn, IsSame, IsElsewhere, Steps, Goes}
 use Rattle.pipeline.specs.declared.flight.Flight.{Flight}
+use Rattle.pipeline.specs.declared.flight.Made.{Made}
 
 -- the latches by their numbers, from select, which is 0, to end
 
@@ -29,6 +30,18 @@ pub record IsDue (c : Context) (latch : ℕ) : Type 0 where
   pub wanting : IsWanting c wants
   pub here : IsFor (plan_of c) wants c.engine
   pub latch_is : latch_for wants ≡ latch
+
+-- what is in a latch, by the byte that says it: 255 where nothing is, else eight times the place and the latch of its event
+abbrev pub flight_in : ℕ → Option Flight
+flight_in slot = if nat_eq slot 255 then None else Some (record { place = slot / 8; due = slot % 8 })
+
+-- what is in the latches
+abbrev pub flights_in : List ℕ → List (Option Flight)
+flights_in slots = map flight_in slots
+
+-- nothing is
+abbrev pub no_flights : List (Option Flight)
+no_flights = None ∷ None ∷ None ∷ None ∷ None ∷ None ∷ []
 
 -- the harts that are held, in the order in which they were admitted, what is in the latches, and the events of the last cycle
 pub record Pipe : Type 0 where
@@ -76,23 +89,35 @@ without_place place None = None
 without_place place (Some f) =
     if nat_eq f.place place then None else if nat_lt f.place place then Some f else Some (record f { place = f.place - 1 })
 
--- what is left in a latch after the event that was made in it: the instruction, where its next event is made in a later one
-abbrev pub flight_after : ℕ → ℕ → Option ℕ → Option Flight
-flight_after place latch None = None
-flight_after place latch (Some due) = if nat_le due latch then None else Some (record { place = place; due = due })
+abbrev pub without_in : ℕ → List (Option Flight) → List (Option Flight)
+without_in place latches = map (without_place place) latches
 
 -- the hart at this place
 abbrev pub HasHart : List Context → ℕ → (Context → Type 0) → Type 0
 HasHart held place Is = (c : Context) × (place < length held) × (slice_index_or held place c ≡ c) × Is c
 
--- an instruction in flight is that of a hart that is held; before end its hart has an event due in a later latch
-abbrev pub IsInFlight : List Context → ℕ → Option Flight → Type 0
-IsInFlight held latch None = Unit {0}
-IsInFlight held latch (Some f) = (f.place < length held) × (latch < 5 → (latch < f.due) × (f.due ≤ 5) × HasHart held f.place (λ c. IsDue c f.due))
+-- this instruction is in this latch
+abbrev pub IsAt : List (Option Flight) → ℕ → Flight → Type 0
+IsAt latches latch f = slice_index_or latches latch None ≡ Some f
 
-abbrev pub AreInFlight : List Context → ℕ → List (Option Flight) → Type 0
-AreInFlight held latch [] = Unit {0}
-AreInFlight held latch (f ∷ rest) = IsInFlight held latch f × AreInFlight held (suc latch) rest
+-- an instruction in flight is that of a hart that is held, which has its event due in a later latch
+pub record IsInFlight (held : List Context) (latch : ℕ) (f : Flight) : Type 0 where
+  pub later : latch < f.due
+  pub most : f.due ≤ 5
+  pub hart : HasHart held f.place (λ c. IsDue c f.due)
+
+-- each instruction is in flight, and no hart has two
+pub record AreInFlight (held : List Context) (latches : List (Option Flight)) : Type 0 where
+  pub six : length latches ≡ 6
+  pub each : (latch : ℕ) (f : Flight) → IsAt latches latch f → IsInFlight held latch f
+  pub once : (one other : ℕ) (f g : Flight) → IsAt latches one f → IsAt latches other g → f.place ≡ g.place → one ≡ other
+
+-- the same where each may also have its event due in the latch in which it is, as after the latches have moved on, for the latches
+-- from this one on; in those before it the events are made
+pub record AreMoving (held : List Context) (latches : List (Option Flight)) : Type 0 where
+  pub six : length latches ≡ 6
+  pub each : (latch : ℕ) (f : Flight) → IsAt latches latch f → (latch ≤ f.due) × (f.due ≤ 5) × HasHart held f.place (λ c. IsDue c f.due)
+  pub once : (one other : ℕ) (f g : Flight) → IsAt latches one f → IsAt latches other g → f.place ≡ g.place → one ≡ other
 
 -- none of these is this place
 abbrev pub IsNotAmong : Option ℕ → List (Option ℕ) → Type 0
@@ -112,10 +137,8 @@ AreHere held = All (λ c. c.engine ≡ engine.Pipe) held
 -- what the type of a pipe keeps
 pub record IsPipe (held : List Context) (latches : List (Option Flight)) (capacity : ℕ) : Type 0 where
   pub few : length held ≤ 32
-  pub six : length latches ≡ 6
   pub here : AreHere held
-  pub flights : AreInFlight held 0 latches
-  pub once : AreOnce (map place_in latches)
+  pub flights : AreInFlight held latches
   pub room : capacity ≡ 32
 
 -- harts of these places made at most one event each, one place after another, so many in all
@@ -145,6 +168,13 @@ pub record IsOut (old new : Pipe) (c : Context) : Type 0 where
   pub left : new.held ≡ before ++ after
   pub made : new.made ≡ old.made
 
+-- the hart at this place was taken out, and its instruction
+pub record IsTakenOut (place : ℕ) (old new : Pipe) (c : Context) : Type 0 where
+  pub was : slice_index_or old.held place c ≡ c
+  pub left : new.held ≡ take place old.held ++ drop (suc place) old.held
+  pub latches : new.latches ≡ without_in place old.latches
+  pub made : new.made ≡ old.made
+
 -- each hart that is held is of this run
 abbrev pub AreOn : Run → List Context → Type 0
 AreOn run held = All (λ c. IsOn run c) held
@@ -153,35 +183,74 @@ AreOn run held = All (λ c. IsOn run c) held
 abbrev pub NoneElsewhere : List Context → Type 0
 NoneElsewhere held = All (λ c. (to : Engine) → IsElsewhere to c → ⊥) held
 
--- the instruction in this latch may make its event there: its hart is held, and has the event due where it says so
-abbrev pub MayWork : List Context → ℕ → Option Flight → Type 0
-MayWork held latch None = Unit {0}
-MayWork held latch (Some f) = (f.place < length held) × (f.due ≡ latch → HasHart held f.place (λ c. IsDue c latch))
+-- the event of what is in a latch isn't due in this one
+abbrev pub IsNotDue : ℕ → Option Flight → Type 0
+IsNotDue latch None = Unit {0}
+IsNotDue latch (Some f) = f.due ≢ latch
 
--- one event, of the hart of this instruction
-pub record Works (run : Run) (before after : Option History) (f : Flight) (old new : List Context) : Type 0 where
+-- the event of what is in this latch was made, and it was such an event
+pub record Works (run : Run) (before after : Option History) (wanted : Class → Wants) (f : Flight) (old new : List Context) : Type 0 where
   pub was : Context
   pub next : Context
   pub there : f.place < length old
   pub was_is : slice_index_or old f.place was ≡ was
-  pub steps : Steps run before after was next
+  pub goes : Goes run before after wanted was next
   pub same : IsSame was next
   pub held : new ≡ slice_set old f.place next
 
--- how many events are made in this latch
-abbrev pub due_here : ℕ → Option Flight → ℕ
-due_here latch None = 0
-due_here latch (Some f) = if nat_eq f.due latch then 1 else 0
+-- what is made in this latch, so many events: the one that is due there, or none
+abbrev pub HasWorked : Run → Option History → Option History → (Class → Wants) → ℕ → ℕ → Option Flight → List Context → List Context → Type 0
+HasWorked run before after wanted latch zero f old new = IsNotDue latch f × (new ≡ old) × (after ≡ before)
+HasWorked run before after wanted latch (suc zero) (Some f) old new = (f.due ≡ latch) × Works run before after wanted f old new
+HasWorked run before after wanted latch made f old new = ⊥
 
--- what is made in this latch: the event that is due, or nothing
-abbrev pub HasWorked : Run → Option History → Option History → ℕ → Option Flight → List Context → List Context → Type 0
-HasWorked run before after zero f old new = (new ≡ old) × (after ≡ before)
-HasWorked run before after (suc n) None old new = ⊥
-HasWorked run before after (suc n) (Some f) old new = Works run before after f old new
+-- what is in a latch after its event: the instruction, where its next event is due in a later one. Where it made none it stays
+abbrev pub IsLeft : List Context → ℕ → ℕ → Option Flight → Option Flight → Type 0
+IsLeft held latch zero old new = new ≡ old
+IsLeft held latch made old None = Unit {0}
+IsLeft held latch made None (Some g) = ⊥
+IsLeft held latch made (Some f) (Some g) = (g.place ≡ f.place) × IsInFlight held latch g
+
+-- the latches moved on by one, and then the events that were due were made: in end, after that in memory, and after that in fetch
+pub record HasAdvanced (run : Run) (before after : Option History) (made : Made) (latches left : List (Option Flight)) (old new : List Context) : Type 0 where
+  pub memory : ℕ
+  pub fetch : ℕ
+  pub accesses : made.accesses ≡ memory + fetch
+  pub after_end : Option History
+  pub after_memory : Option History
+  pub held_end : List Context
+  pub held_memory : List Context
+  pub in_end : HasWorked run before after_end wants.Finish 5 made.ends (slice_index_or latches 4 None) old held_end
+  pub in_memory : HasWorked run after_end after_memory wants.Ask 4 memory (slice_index_or latches 3 None) held_end held_memory
+  pub in_fetch : HasWorked run after_memory after wants.Ask 1 fetch (slice_index_or latches 0 None) held_memory new
+  pub still : made.ends + made.accesses ≡ 0 → left ≡ moved latches
+
+-- after an access in this latch: the instruction, where its next event is due in a later one
+abbrev pub IsGoingOn : Context → ℕ → ℕ → Option Flight → Type 0
+IsGoingOn c place latch None = Unit {0}
+IsGoingOn c place latch (Some f) = (f.place ≡ place) × (latch < f.due) × (f.due ≤ 5) × IsDue c f.due
+
+-- the instruction of this hart was laid into the latch before the one of its next event
+pub record Lays (place : ℕ) (c : Context) (old new : List (Option Flight)) : Type 0 where
+  pub due : ℕ
+  pub is_due : IsDue c due
+  pub some : 0 < due
+  pub most : due ≤ 5
+  pub free : slice_index_or old (due - 1) None ≡ None
+  pub laid : new ≡ slice_set old (due - 1) (Some (record { place = place; due = due }))
+
+-- or it wasn't, since it has none, or since that latch isn't free
+pub record LaysNone (c : Context) (old new : List (Option Flight)) : Type 0 where
+  pub same : new ≡ old
+  pub why : MakesNone c ⊎ ((latch : ℕ) × (slice_index_or old latch None ≢ None))
+
+abbrev pub HasLaid : ℕ → Context → List (Option Flight) → List (Option Flight) → Bool → Type 0
+HasLaid place c old new true = Lays place c old new
+HasLaid place c old new false = LaysNone c old new
 
 -- this hart has an event of its engine due, and isn't in flight
 abbrev pub MayStart : List Context → List (Option Flight) → Flight → Type 0
-MayStart held latches f = (is_among latches f.place ≡ false) × HasHart held f.place (λ c. IsDue c f.due)
+MayStart held latches f = (0 < f.due) × (f.due ≤ 5) × (is_among latches f.place ≡ false) × HasHart held f.place (λ c. IsDue c f.due)
 
 -- none of these harts may start
 abbrev pub NoneMayStart : List Context → List (Option Flight) → ℕ → ℕ → Type 0

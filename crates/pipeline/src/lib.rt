@@ -10,7 +10,7 @@ mod flight;
 mod latches;
 mod pipeline;
 
-pub use flight::Flight;
+pub use flight::{Flight, Made};
 pub use latches::Latches;
 pub use pipeline::Pipeline;
 

@@ -2,10 +2,11 @@
 use Rattle.std.proofs.Common.{◌<◌, ◌∙◌, length, sym, subst, arith}
 use Rattle.std.proofs.lemmas.Bool.{false≢true}
 use Rattle.context.specs.Runs.{MakesNone}
+use Rattle.pipeline.specs.Pipes.{flights_in}
 use Rattle.pipeline.proofs.Working.{is_hart}
 use Rattle.pipeline.proofs.Selecting.{none_more}
-use Rattle.pipeline.proofs.pipeline.first_due.Goals as goal
-use Rattle.pipeline.proofs.pipeline.first_due.Goals.{then-not-is_in_flight+in_default, else-not-is_in_flight}
+use Rattle.pipeline.proofs.latches.first_due.Goals as goal
+use Rattle.pipeline.proofs.latches.first_due.Goals.{then-not-is_in_flight+in_default, else-not-is_in_flight}
 
 pub returns-in-Some-clause-found : goal.returns-in-Some-clause-found
 returns-in-Some-clause-found c =
@@ -15,7 +16,7 @@ returns-in-Some-clause-found c =
 pub loop-place-preserved : goal.loop-place-preserved
 loop-place-preserved c =
     let within : c.loop-place.place < length c.args.held.now = omega (arith, c.loop-place-test.true, c.requires.within) in
-    none_more c.args.held.now c.args.latches.now c.args.from c.loop-place.place c.loop-place.invariant (λ k free is.
+    none_more c.args.held.now (flights_in c.args.slots.now) c.args.from c.loop-place.place c.loop-place.invariant (λ k free is.
     elim c.if-not-is_in_flight.branch [
       | then-not-is_in_flight+in_default w ↦
           subst MakesNone (is_hart c.args.held.now c.loop-place.place k w.index-held-place.result within is (sym w.index-held-place.is)) w.in_default.ensures.due
