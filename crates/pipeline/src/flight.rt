@@ -131,5 +131,5 @@ pub(crate) fn without(slot: u8, place: u8) -> u8
     if at < place {
         return slot;
     }
-    packed(at - 1, slot % 8)
+    slot - 8
 }

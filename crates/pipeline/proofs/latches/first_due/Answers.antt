@@ -11,7 +11,7 @@ use Rattle.pipeline.proofs.latches.first_due.Goals.{then-not-is_in_flight+in_def
 pub returns-in-Some-clause-found : goal.returns-in-Some-clause-found
 returns-in-Some-clause-found c =
     let within : c.loop-place.place < length c.args.held.now = omega (arith, c.loop-place-test.true, c.requires.within) in
-    (sym c.if-not-is_in_flight.ensures, (c.index-held-place.result, within, sym c.index-held-place.is, c.in-Some.ensures.due))
+    (c.in-Some.ensures.range.0, c.in-Some.ensures.range.1, sym c.if-not-is_in_flight.ensures, (c.index-held-place.result, within, sym c.index-held-place.is, c.in-Some.ensures.due))
 
 pub loop-place-preserved : goal.loop-place-preserved
 loop-place-preserved c =
