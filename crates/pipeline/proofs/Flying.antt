@@ -1,5 +1,5 @@
 -- What is in a latch, by the byte that says it, and instructions that move on.
-use Rattle.std.proofs.Common.{◌≡◌, ◌≢◌, ℕ, ◌+◌, ◌-◌, ◌<◌, ◌≤◌, List, map, length, slice_index_or, slice_set, Option, None, Some, refl, sym, ap, subst, ◌∙◌, arith, inl, inr}
+use Rattle.std.proofs.Common.{◌≡◌, ◌≢◌, ℕ, ◌+◌, ◌-◌, ◌<◌, ◌≤◌, ◌/◌, ◌%◌, nat_eq, Bool, true, false, if◌then◌else◌, List, map, length, slice_index_or, slice_set, Option, None, Some, refl, sym, ap, subst, ◌∙◌, arith, inl, inr}
 use Rattle.std.proofs.lemmas.Bool.{cases_eq}
 use Rattle.std.proofs.lemmas.List.{map-set, get_or-map, get_or_default, length-map, get_or-set_same, get_or-set_other, length-set, set-get_or}
 use Rattle.flex_base.specs.declared.class.Class.{Class}
@@ -10,7 +10,7 @@ use Rattle.context.specs.declared.wants.Wants.TheVariants as wants
 use Rattle.context.specs.Obeying.{IsFor}
 use Rattle.context.specs.Contexts.{Context, plan_of, IsWanting, WantsHere}
 use Rattle.pipeline.specs.declared.flight.Flight.{Flight}
-use Rattle.pipeline.specs.Pipes.{flight_in, flights_in, latch_for, IsAt, IsDue, HasHart, IsInFlight, AreMoving, IsLeft, IsNotDue}
+use Rattle.pipeline.specs.Pipes.{flight_in, flights_in, latch_for, IsAt, IsDue, HasHart, IsInFlight, AreMoving, IsLeft, IsGoingOn, IsNotDue}
 
 -- a byte is written
 pub read_set : (slots : List ℕ) (n latch slot : ℕ) → n ≡ latch → flights_in (slice_set slots n slot) ≡ slice_set (flights_in slots) latch (flight_in slot)
@@ -116,3 +116,28 @@ module _ (held : List Context) (latches : List (Option Flight)) (moving : AreMov
           let (its, its_at, its_is) = same_place other h here in
           moving.once one other was its was_at its_at (was_is ∙ same ∙ sym its_is);
     }
+
+-- what goes on after an access is in flight
+pub left_on : (held : List Context) (next : Context) (place latch : ℕ) (o : Option Flight) → place < length held → IsGoingOn next place latch o
+    → IsLeft (slice_set held place next) latch 1 (Some (record { place = place; due = latch })) o
+left_on held next place latch None there on = tt
+left_on held next place latch (Some g) there on =
+    let (same, later, most, due) = on in
+    let At : ℕ → Type 0 = λ k. slice_index_or (slice_set held place next) k next ≡ next in
+    (same, record {
+      later = later;
+      most = most;
+      hart = (next, omega (arith, there, same, length-set held place next), subst At (sym same) (get_or-set_same held place next next there), due);
+    })
+
+-- where the byte says that nothing is there, and where it doesn't
+pub reads_none : (slot : ℕ) → nat_eq slot 255 ≡ true → flight_in slot ≡ None
+reads_none slot is =
+    let In : Bool → Option Flight = λ b. if b then None else Some (record { place = slot / 8; due = slot % 8 }) in
+    ap In is
+
+pub reads_some : (slot : ℕ) → nat_eq slot 255 ≡ false → flight_in slot ≢ None
+reads_some slot is none =
+    let In : Bool → Option Flight = λ b. if b then None else Some (record { place = slot / 8; due = slot % 8 }) in
+    let some : Some (record { place = slot / 8; due = slot % 8 }) ≡ None = sym (ap In is) ∙ none in
+    cc
