@@ -164,8 +164,9 @@ fn first_elsewhere(held: &[HartContext]) -> Option<usize>
     ensures none { IfNone result (NoneElsewhere held.now) }
 {
     for place in 0..held.len() {
-        if other_engine(&held[place]).is_some() {
-            return Some(place);
+        match other_engine(&held[place]) {
+            Some(_) => return Some(place),
+            None => {}
         }
     }
     None

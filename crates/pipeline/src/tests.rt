@@ -90,14 +90,14 @@ const ROWS: [Row; 12] = [
     ([None, OTHER, FIRST, None, None, None], 1),
     ([None, None, OTHER, FIRST, None, None], 0),
     ([None, None, None, OTHER, FIRST, None], 0),
-    ([None, None, None, None, OTHER, FIRST], 1),
-    ([FIRST, None, None, None, None, OTHER], 1),
-    ([OTHER, FIRST, None, None, None, None], 1),
+    ([FIRST, None, None, None, OTHER, None], 1),
+    ([OTHER, FIRST, None, None, None, None], 2),
     ([None, OTHER, FIRST, None, None, None], 1),
     ([None, None, OTHER, FIRST, None, None], 0),
     ([None, None, None, OTHER, FIRST, None], 0),
-    ([None, None, None, None, OTHER, FIRST], 1),
-    ([FIRST, None, None, None, None, OTHER], 1),
+    ([FIRST, None, None, None, OTHER, None], 1),
+    ([OTHER, FIRST, None, None, None, None], 2),
+    ([None, OTHER, FIRST, None, None, None], 1),
 ];
 
 // Runs cycles, and counts those that are as the table says.
@@ -184,7 +184,7 @@ fn instructions_go_from_latch_to_latch(rt: HostRuntime) -> Result<(), Fail> {
     assert_eq!(rt; right, 12);
     assert_eq!(rt; [held, empty], [2, 0]);
     assert_eq!(rt; [left, last], [Some((3, 8)), Some((16, 32))]);
-    assert_eq!(rt; more, 40 - 8);
+    assert_eq!(rt; more, 40 - 10);
     assert_eq!(rt; after, [None; 6]);
     assert_eq!(rt; closed.count, 40);
     Ok(())
