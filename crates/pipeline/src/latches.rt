@@ -43,7 +43,13 @@ impl Latches {
     pub fn is_empty(&self) -> bool
         ensures { result ≡ true → self.now ≡ no_flights }
     {
-        self.slots == [EMPTY; 6]
+        let [select, fetch, decode, execute, memory, end] = self.slots;
+        is_empty(select)
+            && is_empty(fetch)
+            && is_empty(decode)
+            && is_empty(execute)
+            && is_empty(memory)
+            && is_empty(end)
     }
 
     /// Lays the instruction of the hart at this place into the latch before the one in which its next
