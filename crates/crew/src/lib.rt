@@ -18,6 +18,3 @@ pub use law_on_lists::{logs_make_run, merged_parts};
 pub use law_on_stories::accesses_stand;
 pub use machine::Machine;
 pub use running::run;
-
-#[cfg(test)]
-mod tests;
