@@ -1,0 +1,3 @@
+pub mod Working
+pub mod Selecting
+pub mod Flying
