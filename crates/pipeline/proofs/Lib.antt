@@ -1,3 +1,5 @@
 pub mod Working
 pub mod Selecting
 pub mod Flying
+pub mod Cycling
+pub mod Nearing
