@@ -1,3 +1,4 @@
 pub mod Working
 pub mod Selecting
 pub mod Flying
+pub mod Holding
