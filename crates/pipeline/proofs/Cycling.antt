@@ -104,6 +104,10 @@ module _ (run : Run) where
       ∙ length_worked advanced.after_end advanced.after_memory wants.Ask 4 advanced.memory (slice_index_or latches 3 None) advanced.held_end advanced.held_memory advanced.in_memory
       ∙ length_worked before advanced.after_end wants.Finish 5 made.ends (slice_index_or latches 4 None) old advanced.held_end advanced.in_end
 
+-- the events of a cycle are its ends and its accesses
+pub total_is : {ends accesses one two : ℕ} → one ≡ ends → two ≡ accesses → one + two ≡ ends + accesses
+total_is first second = omega (arith, first, second)
+
 -- What a cycle leaves, by what the latches have done over the harts that were lent to them.
 module _ (run : Run) (before after : Option History) (made : Made) (latches left : List (Option Flight)) (items lent new : List Context) (count : ℕ)
     (value : lent ≡ items) (counted : length lent ≡ count) (advanced : HasAdvanced run before after made latches left lent new) where

@@ -4,3 +4,4 @@ pub mod Selecting
 pub mod Flying
 pub mod Cycling
 pub mod Nearing
+pub mod Holding

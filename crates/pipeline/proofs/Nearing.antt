@@ -12,9 +12,10 @@ use Rattle.access_record.specs.Buses.{Run}
 use Rattle.access_record.specs.Histories.{History}
 use Rattle.pipeline.specs.declared.flight.Flight.{Flight}
 use Rattle.pipeline.specs.declared.flight.Made.{Made}
-use Rattle.pipeline.specs.Pipes.{AreInFlight, AreHere, HasAdvanced, IsAt, IsDue, latch_for, MayStart, NoneMayStart, moved, is_among, is_of, wait_at, least_wait}
+use Rattle.pipeline.specs.Pipes.{AreInFlight, AreHere, IsPipe, HasAdvanced, IsAt, IsDue, latch_for, MayStart, NoneMayStart, moved, is_among, is_of, wait_at, least_wait}
 use Rattle.pipeline.proofs.Working.{makes_one}
-use Rattle.pipeline.proofs.Cycling.{six_of, held_is, none_is}
+use Rattle.pipeline.proofs.Cycling.{six_of, length_advanced, held_is, none_is}
+use Rattle.pipeline.proofs.Holding.{flying_selected}
 
 -- each of these, from this latch on, has its event due in a latch after the next
 abbrev pub Wait : ℕ → List (Option Flight) → Type 0
@@ -186,3 +187,35 @@ module _ (run : Run) (before after : Option History) (made : Made) (latches left
         inr (falls_nearer items latches left selected found was (subst In same flights) (advanced.still zero_made) (subst Found now some) (subst Nobody now none)
         place x inside at wanted (ap Engine_of (sym at) ∙ here place x inside))
   ]
+
+-- What the type of a pipe keeps.
+module _ (run : Run) (before after : Option History) (made : Made) (latches left : List (Option Flight)) (items lent new : List Context) (count : ℕ)
+    (value : lent ≡ items) (counted : length lent ≡ count) (advanced : HasAdvanced run before after made latches left lent new) where
+  select_keeps : (held : List Context) (found : Option Flight) (selected : List (Option Flight)) → AreInFlight held left
+      → IfSome found (λ f. MayStart held left f × (selected ≡ slice_set left 0 (Some f)))
+      → IfNone found (NoneMayStart held left 0 (length held) × (selected ≡ left)) → AreInFlight held selected
+  select_keeps held (Some f) selected flights some none =
+      let In : List (Option Flight) → Type 0 = λ fs. AreInFlight held fs in
+      subst In (sym some.1) (flying_selected held left f flights some.0)
+  select_keeps held None selected flights some none =
+      let In : List (Option Flight) → Type 0 = λ fs. AreInFlight held fs in
+      subst In (sym none.1) flights
+
+  pub keeps : (capacity : ℕ) → IsPipe items latches capacity → (AreHere lent → AreHere new) → AreInFlight new left
+      → (read : List Context) → read ≡ take count (new ++ drop (length new) items) → (found : Option Flight) (selected : List (Option Flight))
+      → IfSome found (λ f. MayStart read left f × (selected ≡ slice_set left 0 (Some f)))
+      → IfNone found (NoneMayStart read left 0 (length read) × (selected ≡ left))
+      → IsPipe (take count (new ++ drop (length new) items)) selected capacity
+  keeps capacity pipe here flights read read_is found selected some none =
+      let held = held_is run before after made latches left items lent new count value counted advanced in
+      let Is : List Context → Type 0 = λ h. IsPipe h selected capacity in
+      let Here : List Context → Type 0 = λ h. AreHere h in
+      let Found : List Context → Type 0 = λ h. IfSome found (λ f. MayStart h left f × (selected ≡ slice_set left 0 (Some f))) in
+      let Nobody : List Context → Type 0 = λ h. IfNone found (NoneMayStart h left 0 (length h) × (selected ≡ left)) in
+      let Length : List Context → ℕ = λ h. length h in
+      subst Is (sym held) (record {
+        few = omega (arith, pipe.few, length_advanced run before after made latches left lent new advanced, ap Length value);
+        here = here (subst Here (sym value) pipe.here);
+        flights = select_keeps new found selected flights (subst Found (read_is ∙ held) some) (subst Nobody (read_is ∙ held) none);
+        room = pipe.room;
+      })
