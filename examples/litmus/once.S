@@ -1,22 +1,25 @@
-# The litmus test of store buffering, once: hart 0 writes x and reads y, hart 1 writes y and reads x.
+# The litmus test of store buffering: hart 0 writes x and reads y, hart 1 writes y and reads x.
 # The hart that is done last prints what hart 0 read and what hart 1 read, and turns the power off.
 # A raw image begins at 0x80000000, where the harts begin too, in mode M, each with its number in x10.
+#
+# x stands at 80000100 and y at 80000140. What was read is kept in two bytes at 80000200, and 80000240 counts the harts
+# that are done.
 
         .option norelax
         .globl  _start
 _start: auipc   x5, 0                   # 00000297  the start of RAM
         slli    x6, x10, 6              # 00651313
-        add     x6, x5, x6              # 00628333  this hart's word stands at 256 from here: x at 80000100, y at 80000140
-        xori    x7, x6, 64              # 04034393  and the other hart's from here
+        add     x6, x5, x6              # 00628333  256 before this hart's word
+        xori    x7, x6, 64              # 04034393  256 before the other hart's
         li      x9, 1                   # 00100493
         sw      x9, 256(x6)             # 10932023  the write
         lw      x8, 256(x7)             # 1003a403  the read
 
         add     x11, x5, x10            # 00a285b3
-        sb      x8, 512(x11)            # 20858023  keeps what was read, at 80000200 or 80000201
-        addi    x12, x5, 576            # 24028613  how many harts are done
+        sb      x8, 512(x11)            # 20858023
+        addi    x12, x5, 576            # 24028613
         amoadd.w.aqrl x13, x9, (x12)    # 069626af
-        beq     x13, x0, rest           # 02068c63  the other one is done later, and prints
+        beq     x13, x0, rest           # 02068c63  the other hart is done later, and prints
 
         lui     x14, 0x10000            # 10000737  the console's first register
         lb      x15, 512(x5)            # 20028783
