@@ -2,3 +2,4 @@ pub mod Advancing
 pub mod Working
 pub mod Selecting
 pub mod Flying
+pub mod Laying
