@@ -5,3 +5,4 @@ pub mod Flying
 pub mod Cycling
 pub mod Nearing
 pub mod Holding
+pub mod Laying

@@ -244,7 +244,7 @@ pub record Lays (place : ℕ) (c : Context) (old new : List (Option Flight)) : T
 -- or it wasn't, since it has none, or since that latch isn't free
 pub record LaysNone (c : Context) (old new : List (Option Flight)) : Type 0 where
   pub same : new ≡ old
-  pub why : MakesNone c ⊎ ((latch : ℕ) × (slice_index_or old latch None ≢ None))
+  pub why : MakesNone c ⊎ ((due : ℕ) × IsDue c due × (slice_index_or old (due - 1) None ≢ None))
 
 abbrev pub HasLaid : ℕ → Context → List (Option Flight) → List (Option Flight) → Bool → Type 0
 HasLaid place c old new true = Lays place c old new

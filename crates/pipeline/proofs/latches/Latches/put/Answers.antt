@@ -30,5 +30,5 @@ returns c =
     let some : slice_index_or (flights_in slots) before None ≢ None = λ none. reads_some _ (sym c.if-is_empty.ensures) (sym read ∙ none) in
     record { laid = λ hart due. record {
       same = refl;
-      why = inr (before, subst Read c.self.view_is some);
+      why = inr (c.args.due, due, subst Read c.self.view_is some);
     } }
