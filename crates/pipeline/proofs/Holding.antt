@@ -2,7 +2,7 @@
 use Rattle.std.proofs.Common.{◌≡◌, ◌≢◌, ◌⊎◌, ℕ, zero, suc, ◌+◌, ◌-◌, ◌<◌, ◌≤◌, nat_eq, nat_lt, Bool, true, false, if◌then◌else◌, List, [], ◌∷◌, ◌++◌, map, length, take, drop, slice_index_or, slice_set, Option, None, Some, IfSome, refl, sym, ap, subst, ◌∙◌, arith, inl, inr}
 use Rattle.std.specs.List.{All, SameBelow, ShiftedDown}
 use Rattle.std.proofs.lemmas.Bool.{cases_eq, cases_lt, or_parts, eqb-false, ltb-true, ltb-false}
-use Rattle.std.proofs.lemmas.List.{get_or-set_same, get_or-set_other, length-set, length-map, length-append, get_or_append_left, get_or_default}
+use Rattle.std.proofs.lemmas.List.{get_or-set_same, get_or-set_other, length-set, length-map, length-append, get_or_append_left, get_or_default, drop_all, append-nil}
 use Rattle.std.proofs.Math.Seq.{get_or-append_seam}
 use Rattle.std.proofs.Math.ListN.{get_or-map}
 use Rattle.context.specs.Contexts.{Context}
@@ -192,3 +192,14 @@ parted (y ∷ rest) zero x inside read =
 parted {X} (y ∷ rest) (suc n) x inside read =
     let Then : List X → List X = λ l. y ∷ l in
     ap Then (parted rest n x (omega (arith, inside)) read)
+
+-- the last one is taken out
+pub last_out : {X : Type 0} → (held new : List X) (n : ℕ) (x : X) → n + 1 ≡ length held → slice_index_or held n x ≡ x → new ≡ take n held ++ drop (suc n) held
+    → held ≡ new ++ x ∷ []
+last_out {X} held new n x count read is =
+    let none : drop (suc n) held ≡ [] = drop_all (suc n) held (omega (arith, count)) in
+    let After : List X → List X = λ l. take n held ++ x ∷ l in
+    let Before : List X → List X = λ l. l ++ x ∷ [] in
+    let Rest : List X → List X = λ l. take n held ++ l in
+    let left : new ≡ take n held = is ∙ ap Rest none ∙ append-nil (take n held) in
+    parted held n x (omega (arith, count)) read ∙ ap After none ∙ ap Before (sym left)
