@@ -1,9 +1,9 @@
-ghost use Rattle.std.specs.Prelude.{◌≡◌, ◌<◌, ◌≤◌, ◌+◌, ◌∷◌, ℕ, List, Option, take, length, slice_index_or, slice_set, true, None, Some, IfSome, IfNone};
+ghost use Rattle.std.specs.Prelude.{◌≡◌, ◌<◌, ◌≤◌, ◌+◌, ◌∷◌, ℕ, List, Option, take, length, slice_index_or, slice_set, true, false, None, Some, IfSome, IfNone};
 ghost use Rattle.flex_base.specs.declared.engine.Engine.TheVariants as engine;
 ghost use Rattle.context.specs.Contexts.{Context};
 ghost use Rattle.context.specs.declared.wants.Wants.TheVariants as Wants;
 ghost use Rattle.pipeline.specs.declared.flight.Flight.{Flight};
-ghost use Rattle.pipeline.specs.Pipes.{flight_in, flights_in, no_flights, moved, without_in, is_of, is_among, AreOn, AreHere, AreInFlight, AreMoving, HasAdvanced, HasWorked, IsLeft, IsGoingOn, HasLaid, HasHart, IsDue, MayStart, NoneMayStart};
+ghost use Rattle.pipeline.specs.Pipes.{flight_in, flights_in, no_flights, moved, without_in, is_of, is_among, IsAt, AreOn, AreHere, AreInFlight, AreMoving, HasAdvanced, HasWorked, IsLeft, IsGoingOn, HasLaid, HasHart, IsDue, MayStart, NoneMayStart};
 
 use crate::flight::{
     EMPTY, END, FETCH, Flight, MEMORY, Made, due_here, due_latch, is_empty, packed, read, without,
@@ -41,7 +41,8 @@ impl Latches {
 
     /// Whether nothing is in them.
     pub fn is_empty(&self) -> bool
-        ensures { result ≡ true → self.now ≡ no_flights }
+        ensures none { result ≡ true → self.now ≡ no_flights }
+        ensures some { result ≡ false → (latch : ℕ) × (f : Flight) × IsAt self.now latch f }
     {
         let [select, fetch, decode, execute, memory, end] = self.slots;
         is_empty(select)
