@@ -141,3 +141,8 @@ reads_some slot is none =
     let In : Bool → Option Flight = λ b. if b then None else Some (record { place = slot / 8; due = slot % 8 }) in
     let some : Some (record { place = slot / 8; due = slot % 8 }) ≡ None = sym (ap In is) ∙ none in
     cc
+
+pub reads_flight : (slot : ℕ) → nat_eq slot 255 ≡ false → (f : Flight) × (flight_in slot ≡ Some f)
+reads_flight slot is =
+    let In : Bool → Option Flight = λ b. if b then None else Some (record { place = slot / 8; due = slot % 8 }) in
+    (record { place = slot / 8; due = slot % 8 }, ap In is)
