@@ -8,10 +8,10 @@ use Rattle.access_record.specs.Histories.{History}
 use Rattle.mem_banks.specs.Plain.{Plain}
 use Rattle.context.specs.declared.wants.Wants.{Wants}
 use Rattle.context.specs.declared.wants.Wants.TheVariants as wants
-use Rattle.context.specs.Contexts.{Context, IsSame, Goes}
+use Rattle.context.specs.Contexts.{Context, IsOn, IsSame, Goes}
 use Rattle.pipeline.specs.declared.flight.Flight.{Flight}
 use Rattle.pipeline.specs.declared.flight.Made.{Made}
-use Rattle.pipeline.specs.Pipes.{no_flights, moved, IsAt, IsDue, IsInFlight, AreInFlight, Works, HasWorked, HasAdvanced, Lays}
+use Rattle.pipeline.specs.Pipes.{no_flights, moved, IsAt, IsDue, IsInFlight, AreInFlight, AreOn, Works, HasWorked, HasAdvanced, Lays}
 use Rattle.solo.specs.Solo.{Solo}
 use Rattle.solo.specs.Engines.{IsFlying}
 use Rattle.solo.proofs.Stepping.{with_hart}
@@ -119,13 +119,6 @@ past_more held latches left n flying is past =
     let Read : List (Option Flight) → Option Flight = λ l. get_or l (suc latch) None in
     (suc latch, f, ap Read is ∙ get_or-take 5 latches latch None few ∙ at, omega (arith, from))
 
--- until end, from which nothing moves on
-pub past_none : (held : List Context) (latches : List (Option Flight)) (n : ℕ) → 5 ≤ n → AreInFlight held latches → IsPast latches n → ⊥
-past_none held latches n all flying past =
-    let (latch, f, at, from) = past in
-    let on = flying.each latch f at in
-    omega (arith, on.later, on.most, from, all)
-
 -- What a hart alone makes in a move.
 
 pub record HasMadeOne (run : Run) (before after : Option History) (wanted : Class → Wants) (c : Context) (new : List Context) : Type 0 where
@@ -133,6 +126,36 @@ pub record HasMadeOne (run : Run) (before after : Option History) (wanted : Clas
   pub new_is : new ≡ next ∷ []
   pub goes : Goes run before after wanted c next
   pub same : IsSame c next
+
+-- the list of one context, by what is read of it
+module _ (next : Context) (new : List Context) (is : new ≡ next ∷ []) (d : Context) where
+  pub alone_read : get_or new 0 d ≡ next
+  alone_read =
+      let Read : List Context → Context = λ l. get_or l 0 d in
+      ap Read is
+
+  pub alone_on : (run first : Run) → run ≡ first → AreOn run new → IsOn first (get_or new 0 d)
+  alone_on run first same on =
+      let On : Run → Type 0 = λ r. IsOn r (get_or new 0 d) in
+      subst On same (on 0 d (omega (arith, ap length is)))
+
+  pub alone_flying : (latches : List (Option Flight)) → AreInFlight new latches → AreInFlight (get_or new 0 d ∷ []) latches
+  alone_flying latches flying =
+      let Are : List Context → Type 0 = λ l. AreInFlight l latches in
+      let One : Context → List Context = λ x. x ∷ [] in
+      subst Are (is ∙ ap One (sym alone_read)) flying
+
+-- and its event
+module _ (run : Run) (before after : Option History) (wanted : Class → Wants) (c : Context) (new : List Context) (one : HasMadeOne run before after wanted c new) (d : Context) where
+  pub one_goes : Goes run before after wanted c (get_or new 0 d)
+  one_goes =
+      let Are : Context → Type 0 = λ x. Goes run before after wanted c x in
+      subst Are (sym (alone_read one.next new one.new_is d)) one.goes
+
+  pub one_same : IsSame c (get_or new 0 d)
+  one_same =
+      let Are : Context → Type 0 = λ x. IsSame c x in
+      subst Are (sym (alone_read one.next new one.new_is d)) one.same
 
 module _ (run : Run) (before after : Option History) (wanted : Class → Wants) (latch : ℕ) where
   worked_none : (n : ℕ) (o : Option Flight) (old new : List Context) → n ≡ 0 → HasWorked run before after wanted latch n o old new → (new ≡ old) × (after ≡ before)
@@ -229,3 +252,13 @@ module _ (run : Run) (before after : Option History) (made : Made) (c : Context)
         let fetch = none_in_fetch (idle a.after_memory after wants.Ask 1 3 0 a.fetch f a.held_memory new at (λ same. omega (arith, same)) a.in_fetch) in
         made_alone run a.after_end before a.after_memory after wants.Ask f c a.held_end a.held_memory new end.0 end.1 fetch.0 fetch.1 works
   ]
+
+-- the move of a context that is lent as a list of one, of the first run, history and context
+pub moved_alone : (run first : Run) (was before after : Option History) (made : Made) (now c : Context) (held new : List Context) (latches left : List (Option Flight))
+    → run ≡ first → was ≡ before → now ≡ c → held ≡ now ∷ [] → AreInFlight (now ∷ []) latches → HasAdvanced run was after made latches left held new
+    → AreInFlight (c ∷ []) latches × HasAdvanced first before after made latches left (c ∷ []) new
+moved_alone run first was before after made now c held new latches left same_run same_history same alone flying advanced =
+    let One : Context → List Context = λ x. x ∷ [] in
+    let Are : List Context → Type 0 = λ l. AreInFlight l latches in
+    let Has : Run × (Option History) × (List Context) → Type 0 = λ x. HasAdvanced x.0 x.1 after made latches left x.2 new in
+    (subst Are (ap One same) flying, subst Has (λ i. (same_run i, same_history i, (alone ∙ ap One same) i)) advanced)

@@ -77,7 +77,7 @@ fn move_on<B: Bus>(latches: &mut Latches, context: &mut HartContext, bus: &mut B
     ensures bus { B.run bus.new ≡ B.run bus.old }
     ensures flying { AreInFlight (context.new ∷ []) latches.new }
 {
-    for _ in 0..6 {
+    for _ in 0..6u8 {
         let made = latches.advance(slice::from_mut(context), bus);
         if made.ends != 0 {
             return Went::Ended;
