@@ -9,9 +9,10 @@ use Rattle.mem_banks.specs.Plain.{Plain}
 use Rattle.context.specs.declared.wants.Wants.{Wants}
 use Rattle.context.specs.declared.wants.Wants.TheVariants as wants
 use Rattle.context.specs.Contexts.{Context, IsOn, IsSame, Goes}
+use Rattle.context.specs.Runs.{MakesNone}
 use Rattle.pipeline.specs.declared.flight.Flight.{Flight}
 use Rattle.pipeline.specs.declared.flight.Made.{Made}
-use Rattle.pipeline.specs.Pipes.{no_flights, moved, IsAt, IsDue, IsInFlight, AreInFlight, AreOn, Works, HasWorked, HasAdvanced, Lays}
+use Rattle.pipeline.specs.Pipes.{no_flights, moved, IsAt, IsDue, IsInFlight, AreInFlight, AreOn, Works, HasWorked, HasAdvanced, Lays, LaysNone}
 use Rattle.solo.specs.Solo.{Solo}
 use Rattle.solo.specs.Engines.{IsFlying}
 use Rattle.solo.proofs.Stepping.{with_hart}
@@ -84,9 +85,17 @@ module _ (latch : ℕ) (f : Flight) (few : latch < 6) where
     once = λ one other g h at there same. (laid_at one g at).0 ∙ sym (laid_at other h there).0;
   }
 
-module _ (c : Context) (new : List (Option Flight)) (lays : Lays 0 c no_flights new) where
+module _ (c : Context) (old new : List (Option Flight)) (empty : old ≡ no_flights) (lays : Lays 0 c old new) where
+  abbrev laid : Option Flight
+  laid = Some (record { place = 0; due = lays.due })
+
   few : lays.due - 1 < 6
   few = omega (arith, lays.most)
+
+  laid_is : new ≡ set no_flights (lays.due - 1) laid
+  laid_is =
+      let Set : List (Option Flight) → List (Option Flight) = λ l. set l (lays.due - 1) laid in
+      lays.laid ∙ ap Set empty
 
   pub laid_flying : AreInFlight (c ∷ []) new
   laid_flying =
@@ -97,12 +106,21 @@ module _ (c : Context) (new : List (Option Flight)) (lays : Lays 0 c no_flights 
         hart = (c, omega arith, refl, lays.is_due);
       } in
       let Are : List (Option Flight) → Type 0 = λ l. AreInFlight (c ∷ []) l in
-      subst Are (sym lays.laid) (laid_in_flight (lays.due - 1) f few (c ∷ []) on)
+      subst Are (sym laid_is) (laid_in_flight (lays.due - 1) f few (c ∷ []) on)
 
   pub laid_some : (latch : ℕ) × (f : Flight) × IsAt new latch f
   laid_some =
       let Read : List (Option Flight) → Option Flight = λ l. get_or l (lays.due - 1) None in
-      (lays.due - 1, record { place = 0; due = lays.due }, ap Read lays.laid ∙ get_or-set_same no_flights (lays.due - 1) _ None few)
+      (lays.due - 1, record { place = 0; due = lays.due }, ap Read laid_is ∙ get_or-set_same no_flights (lays.due - 1) laid None few)
+
+-- each of them is free, so who isn't laid has no event due
+pub laid_none : (c : Context) (old new : List (Option Flight)) → old ≡ no_flights → LaysNone c old new → MakesNone c
+laid_none c old new empty none = elim none.why [
+  | inl why ↦ why
+  | inr taken ↦
+      let Read : List (Option Flight) → Option Flight = λ l. get_or l taken.0 None in
+      absurd (taken.1 (ap Read empty ∙ none_at taken.0))
+]
 
 -- They move on while nothing is made.
 

@@ -1,6 +1,6 @@
 -- The one hart in the latches has made its event, or has moved on by one.
-use Rattle.std.proofs.Common.{ap, ◌∙◌, arith}
-use Rattle.solo.proofs.Flying.{past_more, past_none, alone_read, alone_on, alone_flying, one_goes, one_same, made_none, made_end, made_access, moved_alone}
+use Rattle.std.proofs.Common.{◌∙◌}
+use Rattle.solo.proofs.Flying.{past_more, alone_read, alone_on, alone_flying, one_goes, one_same, made_none, made_end, made_access, moved_alone}
 use Rattle.solo.proofs.engines.move_on.Goals as goal
 
 pub returns-then-made-ne0-clause-made : goal.returns-then-made-ne0-clause-made

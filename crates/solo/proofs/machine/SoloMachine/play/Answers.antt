@@ -3,16 +3,17 @@ use Rattle.std.proofs.Common.{◌≡◌, ℕ, List, take, get_or, refl, subst, s
 use Rattle.std.proofs.lemmas.List.{take_more, take_all}
 use Rattle.flex_base.specs.Unsplit.{reach_from}
 use Rattle.solo.specs.Standing.{IsAt}
+use Rattle.solo.proofs.Flying.{new_flying}
 use Rattle.solo.proofs.Rounds.{at_none, at_more}
 use Rattle.solo.proofs.machine.SoloMachine.play.Goals as goal
 
 pub loop-h-init : goal.loop-h-init
-loop-h-init c = (refl, λ setup u at. at_none setup u c.args.self.now at)
+loop-h-init c = (refl, λ setup u at. at_none setup u c.args.self.now at, new_flying c.args.self.now 0 _ c.new-latches.ensures)
 
 pub next-requires : goal.next-requires
 next-requires c =
     let first = c.requires.at in
-    record { at = (first.0, _, c.loop-h.invariant.1 first.0 first.1 first.2) }
+    record { at = (first.0, _, c.loop-h.invariant.1 first.0 first.1 first.2); flying = ? }
 
 pub loop-h-preserved : goal.loop-h-preserved
 loop-h-preserved c = (
@@ -24,6 +25,7 @@ loop-h-preserved c = (
       let At : List ℕ → Type 0 = λ ns. IsAt setup (reach_from setup u ns) c.next.new.self in
       subst At (sym (take_more order i 0 c.loop-h-test.true))
       (at_more setup u names (get_or order i 0) c.next.new.self (c.next.ensures.at setup (reach_from setup u names) (c.loop-h.invariant.1 setup u at))),
+  ?,
 )
 
 pub returns-clause-at : goal.returns-clause-at

@@ -56,3 +56,6 @@ pub returns-in-Over-clause-flying : goal.returns-in-Over-clause-flying
 returns-in-Over-clause-flying c =
     let (setup, u, at) = c.requires.at in
     flying_at setup u _ _ c.args.h c.index_mut.result.now c.self.view_is at c.requires.hart c.index_mut.ensures.value c.go_in_engine.new.context c.go_in_engine.new.bus c.go_in_engine.new.latches c.go_in_engine.ensures.flying
+
+pub returns-in-Parked-clause-flying : goal.returns-in-Parked-clause-flying
+returns-in-Parked-clause-flying c = new_flying c.wake.new.self c.args.h _ c.new.ensures
