@@ -1,3 +1,4 @@
+pub mod Advancing
 pub mod Working
 pub mod Selecting
 pub mod Flying
