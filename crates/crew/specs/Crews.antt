@@ -167,6 +167,11 @@ pub record WorkerHasWorked (run : Run) (old new : Berth) : Type 0 where
   pub room : new.room ≡ old.room
   pub worked : HaveWorked run (most_ends old.engine) old.contexts new.contexts
 
+-- the workers from this number on hold no context
+abbrev pub AreIdleFrom : ℕ → List Berth → Type 0
+AreIdleFrom from workers = (number : ℕ) (other : Berth) → from ≤ number → number < length workers
+    → (slice_index_or workers number other).contexts ≡ []
+
 -- so each of a list
 pub record AllHaveWorked (run : Run) (old new : List Berth) : Type 0 where
   pub counted : length new ≡ length old

@@ -1,4 +1,4 @@
-ghost use Rattle.std.specs.Prelude.{◌≡◌, ◌++◌, ◌∷◌, ◌<◌, ◌≤◌, [], IfOk, All, length, option_to_list, None, vec_capacity};
+ghost use Rattle.std.specs.Prelude.{◌≡◌, ◌++◌, ◌∷◌, ◌<◌, ◌≤◌, true, [], IfOk, All, length, option_to_list, None, vec_capacity};
 ghost use Rattle.flex_base.specs.declared.engine.Engine.TheVariants as engine;
 ghost use Rattle.context.specs.Contexts.{IsOn};
 ghost use Rattle.crew.specs.Crews.{HaveWorked, HasWorked, most_ends};
@@ -48,6 +48,13 @@ impl Worker {
         ensures room { self.new.room ≡ self.old.room }
     {
         self.contexts.push_reserved(context);
+    }
+
+    // Whether it holds no hart.
+    pub(crate) fn is_idle(&self) -> bool
+        ensures { result ≡ true → self.now.contexts ≡ [] }
+    {
+        self.contexts.is_empty()
     }
 
     // Gives a hart back, where it has one.
