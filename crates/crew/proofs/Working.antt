@@ -67,6 +67,7 @@ rest_idle run workers first rest new count parts counted worked idle =
             | inr late ↦
                 let was : slice_index_or workers k d ≡ slice_index_or rest (k - length first) d = ap (λ ws. slice_index_or ws k d) parts ∙ get_or-append_right first rest (length first) k d refl late in
                 let is : slice_index_or (new ++ rest) k d ≡ slice_index_or rest (k - length first) d = get_or-append_right new rest (length first) k d worked.counted late in
-                subst Worked (λ i. (refl {x = slice_index_or workers k d} i, (was ∙ sym is) i)) (idle_worked run (slice_index_or workers k d) (idle k d (omega (arith, late, counted)) below))
+                let To : Berth → Type 0 = λ w. WorkerHasWorked run (slice_index_or workers k d) w in
+                subst To (was ∙ sym is) (idle_worked run (slice_index_or workers k d) (idle k d (omega (arith, late, counted)) below))
           ];
     }
