@@ -1,4 +1,4 @@
-ghost use Rattle.std.specs.Prelude.{◌≡◌, ◌<◌, true, All, length, IfSome, Some};
+ghost use Rattle.std.specs.Prelude.{◌≡◌, ◌<◌, ◌≤◌, true, All, length, IfSome, Some};
 ghost use Rattle.access_record.specs.Buses.{Run};
 ghost use Rattle.context.specs.Contexts.{IsOn, IsSame};
 ghost use Rattle.crew.specs.Crews.{IsCrew, IsCrewBut, AreHome, Empties, TakesBack, MayWork, WorkerHasWorked, AllHaveWorked, AreIdleFrom, count_by, engine_of_worker};

@@ -4,8 +4,8 @@ use Rattle.crew.specs.Crews.{Berth, AllHaveWorked}
 use Rattle.crew.proofs.Working.{first_may, rest_idle}
 use Rattle.crew.proofs.coordinator.side_by_side.Goals as goal
 
-pub in_threads-requires : goal.in_threads-requires
-in_threads-requires g c =
+pub in_threads-requires-clause-manned : goal.in_threads-requires-clause-manned
+in_threads-requires-clause-manned g c κs within =
     let cut = c.split_at_mut-first.ensures in
     first_may g.N.RunName.run c.args.workers.now c.split_at_mut-first.result.0.now c.split_at_mut-first.result.1.now cut.value c.requires.manned
 
