@@ -139,5 +139,6 @@ reads_none slot is =
 pub reads_some : (slot : ℕ) → nat_eq slot 255 ≡ false → flight_in slot ≢ None
 reads_some slot is none =
     let In : Bool → Option Flight = λ b. if b then None else Some (record { place = slot / 8; due = slot % 8 }) in
-    let some : Some (record { place = slot / 8; due = slot % 8 }) ≡ None = sym (ap In is) ∙ none in
+    let flight : Flight = record { place = slot / 8; due = slot % 8 } in
+    let some : Some flight ≡ None = sym (ap In is) ∙ none in
     cc
