@@ -12,7 +12,7 @@ use Rattle.context.specs.Contexts.{Context, IsOn, IsSame, Goes}
 use Rattle.context.specs.Runs.{MakesNone}
 use Rattle.pipeline.specs.declared.flight.Flight.{Flight}
 use Rattle.pipeline.specs.declared.flight.Made.{Made}
-use Rattle.pipeline.specs.Pipes.{no_flights, moved, IsAt, IsDue, IsInFlight, AreInFlight, AreOn, Works, HasWorked, HasAdvanced, Lays, LaysNone}
+use Rattle.pipeline.specs.Pipes.{no_flights, moved, IsAt, IsInFlight, AreInFlight, AreOn, Works, HasWorked, HasAdvanced, Lays, LaysNone}
 use Rattle.solo.specs.Solo.{Solo}
 use Rattle.solo.specs.Engines.{IsFlying}
 use Rattle.solo.proofs.Stepping.{with_hart}
