@@ -57,7 +57,6 @@ record Changes (most : ℕ) (f : Option Flight) (old new : List Context) : Type 
   each : (k : ℕ) (other : Context) → HasMade most (slice_index_or old k other) (slice_index_or new k other)
   others : (k : ℕ) (other : Context) → ((g : Flight) → f ≡ Some g → g.place ≢ k) → slice_index_or new k other ≡ slice_index_or old k other
 
-
 at_most : (most : ℕ) (c : Context) → HasMade most c c
 at_most most c = record { same = (made_none c).same; engine = refl; ends = omega arith }
 
@@ -150,12 +149,12 @@ was_moved : (latches : List (Option Flight)) (latch : ℕ) (f : Flight) → leng
 was_moved latches zero f six other is = absurd cc
 was_moved latches (suc k) f six other is = elim (cases_lt k 5) [
   | inl less ↦ record {
-      latch = k;
-      flight = f;
-      at = sym (get_or-take 5 latches k None less) ∙ is;
-      same = refl;
-      other = λ four. other (ap suc four);
-    }
+    latch = k;
+    flight = f;
+    at = sym (get_or-take 5 latches k None less) ∙ is;
+    same = refl;
+    other = λ four. other (ap suc four);
+  }
   | inr past ↦
       let none : slice_index_or (take 5 latches) k None ≡ None = get_or_past (take 5 latches) k None (omega (arith, past, length-take-le 5 latches (omega (arith, six)))) in
       let some : None ≡ Some f = sym none ∙ is in
@@ -251,16 +250,17 @@ module _ (run : Run) (before after : Option History) (made : Made) (place : ℕ)
       → (f.place < place) × ((other : Context) → HasMade 0 (slice_index_or start f.place other) (slice_index_or new f.place other))
   still_none latch f at =
       let was = was_before latch f at in
-      let (inside, none) = passing.still was.latch was.flight was.at in
-      (omega (arith, inside, was.same),
-      λ other.
-          let Made : ℕ → Type 0 = λ n. HasMade 0 (slice_index_or start n other) (slice_index_or held n other) in
-          let From : Context → Type 0 = λ c. HasMade 0 (slice_index_or start f.place other) c in
-          let not_it : (g : Flight) → slice_index_or latches 4 None ≡ Some g → g.place ≢ f.place = λ g there same.
-          was.other (passing.flights.once was.latch 4 was.flight g was.at there (was.same ∙ sym same)) in
-          let so_far : HasMade 0 (slice_index_or start f.place other) (slice_index_or advanced.held_end f.place other) =
-          subst From (sym (in_end.others f.place other not_it)) (subst Made was.same (none other)) in
-          made_then 0 0 0 (slice_index_or start f.place other) (slice_index_or advanced.held_end f.place other) (slice_index_or new f.place other) so_far (none_later f.place other) refl)
+      let (inside, none) = passing.still was.latch was.flight was.at in (
+        omega (arith, inside, was.same),
+        λ other.
+            let Made : ℕ → Type 0 = λ n. HasMade 0 (slice_index_or start n other) (slice_index_or held n other) in
+            let From : Context → Type 0 = λ c. HasMade 0 (slice_index_or start f.place other) c in
+            let not_it : (g : Flight) → slice_index_or latches 4 None ≡ Some g → g.place ≢ f.place = λ g there same.
+            was.other (passing.flights.once was.latch 4 was.flight g was.at there (was.same ∙ sym same)) in
+            let so_far : HasMade 0 (slice_index_or start f.place other) (slice_index_or advanced.held_end f.place other) =
+            subst From (sym (in_end.others f.place other not_it)) (subst Made was.same (none other)) in
+            made_then 0 0 0 (slice_index_or start f.place other) (slice_index_or advanced.held_end f.place other) (slice_index_or new f.place other) so_far (none_later f.place other) refl,
+      )
 
   pub moved_on : AreInFlight new left → AreOn run new → AreHere new → IsPassing run place start new left
   moved_on flights on here = record {
@@ -326,13 +326,13 @@ module _ (run : Run) (place : ℕ) (start held : List Context) (latches new : Li
   only_once : (one other : ℕ) (f g : Flight) → IsAt new one f → IsAt new other g → f.place ≡ g.place → one ≡ other
   only_once one other f g at there same = elim (where_from one f at) [
     | inl (first, f_is) ↦ elim (where_from other g there) [
-        | inl (second, g_is) ↦ first ∙ sym second
-        | inr (second, before) ↦ absurd (apart other g before (sym same ∙ sym (ap (λ (h : Flight). h.place) f_is)))
-      ]
+      | inl (second, g_is) ↦ first ∙ sym second
+      | inr (second, before) ↦ absurd (apart other g before (sym same ∙ sym (ap (λ (h : Flight). h.place) f_is)))
+    ]
     | inr (first, before) ↦ elim (where_from other g there) [
-        | inl (second, g_is) ↦ absurd (apart one f before (same ∙ sym (ap (λ (h : Flight). h.place) g_is)))
-        | inr (second, g_before) ↦ passing.flights.once one other f g before g_before same
-      ]
+      | inl (second, g_is) ↦ absurd (apart one f before (same ∙ sym (ap (λ (h : Flight). h.place) g_is)))
+      | inr (second, g_before) ↦ passing.flights.once one other f g before g_before same
+    ]
   ]
 
   pub laid_in : IsPassing run (place + 1) start held new
@@ -346,12 +346,13 @@ module _ (run : Run) (place : ℕ) (start held : List Context) (latches new : Li
     after = λ k other le. passing.after k other (omega (arith, le));
     still = λ latch f at. elim (where_from latch f at) [
       | inl (same, is) ↦
-          let place_is : place ≡ f.place = ap (λ (h : Flight). h.place) is in
-          (omega (arith, place_is),
-          λ other.
-              let Made : ℕ → Type 0 = λ n. HasMade 0 (slice_index_or start n other) (slice_index_or held n other) in
-              let From : Context → Type 0 = λ d. HasMade 0 (slice_index_or start place other) d in
-              subst Made place_is (subst From (sym (passing.after place other (omega arith))) (made_none (slice_index_or start place other))))
+          let place_is : place ≡ f.place = ap (λ (h : Flight). h.place) is in (
+            omega (arith, place_is),
+            λ other.
+                let Made : ℕ → Type 0 = λ n. HasMade 0 (slice_index_or start n other) (slice_index_or held n other) in
+                let From : Context → Type 0 = λ d. HasMade 0 (slice_index_or start place other) d in
+                subst Made place_is (subst From (sym (passing.after place other (omega arith))) (made_none (slice_index_or start place other))),
+          )
       | inr (other, before) ↦ (omega (arith, (passing.still latch f before).0), (passing.still latch f before).1)
     ];
   }

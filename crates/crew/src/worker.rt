@@ -3,12 +3,12 @@ ghost use Rattle.flex_base.specs.declared.engine.Engine.TheVariants as engines;
 ghost use Rattle.context.specs.Contexts.{IsOn};
 ghost use Rattle.crew.specs.Crews.{HaveWorked, HasWorked, most_ends};
 
+use crate::pipe::run_through;
 use access_record::Bus;
 use context::HartContext;
 use flex_base::Engine;
 use host_sim::HostSim;
 use micro_kernel::Kernel;
-use crate::pipe::run_through;
 use std::alloc::{AllocError, Global};
 use std::marker::Model;
 

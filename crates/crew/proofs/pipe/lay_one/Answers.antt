@@ -13,8 +13,11 @@ advance-requires g c =
     let so_far = c.loop-cycle.invariant in
     let Passing : Run → Type 0 = λ r. IsPassing r (c.args.place + 1) start c.loop-cycle.contexts c.lay.new.latches in
     record {
-      passing = (c.args.place + 1, start,
-      subst Passing (sym so_far.2) (c.lay.ensures.laid (g.B.Bus.run c.args.bus.now) start (so_far.0 start passing) c.if-lay.true));
+      passing = (
+        c.args.place + 1,
+        start,
+        subst Passing (sym so_far.2) (c.lay.ensures.laid (g.B.Bus.run c.args.bus.now) start (so_far.0 start passing) c.if-lay.true),
+      );
     }
 
 pub returns-then-lay-clause-passing : goal.returns-then-lay-clause-passing
