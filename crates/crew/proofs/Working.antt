@@ -10,7 +10,7 @@ use Rattle.context.specs.Contexts.{Context, IsOn, IsSame, Steps, Stays, ends_by}
 use Rattle.context.specs.Runs.{Runs, HasRun}
 use Rattle.crew.specs.Crews.{Berth, MayWork, HasWorked, HaveWorked, WorkerHasWorked, AllHaveWorked, AreIdleFrom}
 
-few_ends : (happened : What) → ends_by happened ≤ 1
+pub few_ends : (happened : What) → ends_by happened ≤ 1
 few_ends (what.Acc access reply) = omega arith
 few_ends (what.Handover to) = omega arith
 few_ends (what.End part) = omega arith

@@ -138,8 +138,9 @@ pub record Empties (number : ℕ) (old new : List Berth) : Type 0 where
 
 -- What a phase does.
 
--- a worker that may run: its contexts are of the run and in its engine
+-- a worker that may run: its contexts are of the run and in its engine, and no more than a pipe takes
 pub record MayWork (run : Run) (w : Berth) : Type 0 where
+  pub few : length w.contexts ≤ 32
   pub on : All (λ c. IsOn run c) w.contexts
   pub here : All (λ c. c.engine ≡ w.engine) w.contexts
 
