@@ -118,8 +118,8 @@ pub laid_none : (c : Context) (old new : List (Option Flight)) → old ≡ no_fl
 laid_none c old new empty none = elim none.why [
   | inl why ↦ why
   | inr taken ↦
-      let Read : List (Option Flight) → Option Flight = λ l. get_or l taken.0 None in
-      absurd (taken.1 (ap Read empty ∙ none_at taken.0))
+      let Read : List (Option Flight) → Option Flight = λ l. get_or l (taken.0 - 1) None in
+      absurd (taken.2 (ap Read empty ∙ none_at (taken.0 - 1)))
 ]
 
 -- They move on while nothing is made.
