@@ -396,38 +396,3 @@ passed run place start held latches passing = record {
       let made = passing.each k other in
       record { same = made.same; on = passing.on k other (omega (arith, below, passing.counted)); engine = made.engine; ends = made.ends };
 }
-
--- Passes, one after another.
-
-pub no_pass : (run : Run) (held : List Context) → AreOn run held → HaveWorked run 0 held held
-no_pass run held on = record {
-  counted = refl;
-  each = λ k other below. record { same = (made_none (slice_index_or held k other)).same; on = on k other below; engine = refl; ends = omega arith };
-}
-
-pub one_pass_more : (run : Run) (n : ℕ) (start held new : List Context) → HaveWorked run n start held → HaveWorked run 1 held new → HaveWorked run (n + 1) start new
-one_pass_more run n start held new so_far one = record {
-  counted = one.counted ∙ so_far.counted;
-  each = λ k other below.
-      let was = so_far.each k other below in
-      let now = one.each k other (omega (arith, below, so_far.counted)) in
-      record { same = same-trans _ _ _ was.same now.same; on = now.on; engine = now.engine ∙ was.engine; ends = omega (arith, was.ends, now.ends) };
-}
-
-pub at_most_passes : (run : Run) (n most : ℕ) (start held : List Context) → HaveWorked run n start held → n ≤ most → HaveWorked run most start held
-at_most_passes run n most start held worked le = record {
-  counted = worked.counted;
-  each = λ k other below.
-      let did = worked.each k other below in
-      record { same = did.same; on = did.on; engine = did.engine; ends = omega (arith, did.ends, le) };
-}
-
--- the harts are still of the run
-pub still_on : (run : Run) (n : ℕ) (start held : List Context) → HaveWorked run n start held → AreOn run held
-still_on run n start held worked = λ k other below. (worked.each k other (omega (arith, below, worked.counted))).on
-
--- and in the pipe
-pub still_here : (run : Run) (n : ℕ) (start held : List Context) → HaveWorked run n start held → AreHere start → AreHere held
-still_here run n start held worked here = λ k other below.
-    let inside : k < length start = omega (arith, below, worked.counted) in
-    (worked.each k other inside).engine ∙ here k other inside
