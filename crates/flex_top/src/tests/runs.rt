@@ -163,6 +163,9 @@ fn assert_call_of_run<R: Threads + Wait + Sync + Abort>(
     assert!(rt; status_code(&answer) == status, "at {call}");
     assert!(rt; outer.said() == said.as_bytes(), "at {call}");
     assert!(rt; outer.written("out").is_some() == written, "at {call}");
-    assert!(rt; text_of(&outer).is_empty() == (status != ENDED), "at {call}");
+    assert!(rt;
+        text_of(&outer).is_empty() == (status != ENDED),
+        "at {call}"
+    );
     Ok(())
 }
