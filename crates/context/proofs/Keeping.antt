@@ -640,3 +640,7 @@ is_elsewhere view c w to is context wanting for_it other = record {
   other = subst (λ (k : Context). to ≢ k.engine) is other;
   left = is_left view c is context;
 }
+
+-- an access is no end
+pub asks_no_end : (class other : Class) → wants.Ask class ≡ wants.Finish other → ⊥
+asks_no_end class other is = cc

@@ -215,6 +215,10 @@ pub record Goes (run : Run) (before after : Option History) (wanted : Class → 
   pub here : plan_of old class ≡ old.engine
   pub steps : Steps run before after old new
 
+-- it wants such an event, of a class that the plan gives the engine that it is in
+abbrev pub WantsHere : (Class → Wants) → Context → Type 0
+WantsHere wanted c = (class : Class) × IsWanting c (wanted class) × (plan_of c class ≡ c.engine)
+
 -- it wants an event that is another engine's work, and has an end left in its round
 pub record IsElsewhere (to : Engine) (c : Context) : Type 0 where
   pub wanted : IsWantedIn c to

@@ -10,7 +10,7 @@ ghost use Rattle.access_record.specs.Buses.{Run};
 ghost use Rattle.context.specs.declared.wants.Wants.TheVariants as Wants;
 ghost use Rattle.context.specs.declared.wants.Wants.{Wants};
 ghost use Rattle.context.specs.Obeying.{IsFor, engine_wanted};
-ghost use Rattle.context.specs.Contexts.{new_context, plan_of, layout_of, IsRunOf, instruction_at, IsWanting, IsWantedIn, IsAsking, IsEnding, IsContext, IsOn, IsSame, Steps, Moves, HasTried, HasGone};
+ghost use Rattle.context.specs.Contexts.{new_context, plan_of, layout_of, IsRunOf, instruction_at, IsWanting, IsWantedIn, IsAsking, IsEnding, IsContext, IsOn, IsSame, Steps, Moves, HasTried, HasGone, WantsHere, Goes};
 ghost use Rattle.context.specs.Runs.{MakesNone};
 
 use crate::held::HeldPass;
@@ -130,6 +130,7 @@ impl HartContext {
     }
 
     /// What the hart wants next, where the plan gives it to the engine that the hart is in.
+    #[inline(always)]
     pub fn wants_here(&self) -> Option<Wants>
         ensures { MatchOption result (MakesNone self.now) (λ w. IsWanting self.now w × IsFor (plan_of self.now) w self.now.engine) }
     {
@@ -269,6 +270,37 @@ impl HartContext {
             Need::Parked => Went::Parked,
             Need::Over => Went::Over,
         }
+    }
+
+    /// Makes the access that the hart wants, of a class that the plan gives the engine that it is in.
+    pub fn ask<B: Bus>(&mut self, bus: &mut B)
+        requires on { IsOn (B.run bus.old) self.old }
+        requires wanted { WantsHere Wants.Ask self.old }
+        ensures goes { Goes (B.run bus.old) (B.history bus.old) (B.history bus.new) Wants.Ask self.old self.new }
+        ensures same { IsSame self.old self.new }
+        ensures on { IsOn (B.run bus.old) self.new }
+        ensures bus { B.run bus.new ≡ B.run bus.old }
+    {
+        match self.need() {
+            Need::Ask(access, _) => self.make_access(bus, access),
+            Need::Finish(_) => unreachable!(),
+            Need::Parked => unreachable!(),
+            Need::Over => unreachable!(),
+        }
+    }
+
+    /// Ends the hart's instruction, which is what it wants, with an end of a class that the plan gives
+    /// the engine that it is in. It needn't ask the story.
+    pub fn finish<B: Bus>(&mut self, bus: &mut B)
+        requires on { IsOn (B.run bus.old) self.old }
+        requires wanted { WantsHere Wants.Finish self.old }
+        ensures goes { Goes (B.run bus.old) (B.history bus.old) (B.history bus.new) Wants.Finish self.old self.new }
+        ensures same { IsSame self.old self.new }
+        ensures on { IsOn (B.run bus.old) self.new }
+        ensures bus { B.run bus.new ≡ B.run bus.old }
+    {
+        let _some = self.round_left();
+        self.make_end(bus);
     }
 
     /// Does in place what `try_wake` does.

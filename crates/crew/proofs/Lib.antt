@@ -10,6 +10,7 @@ mod EndState
 mod WholeRun
 mod Counting
 mod Working
+mod Passing
 mod Moving
 mod Begun
 mod Manning

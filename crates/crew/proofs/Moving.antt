@@ -169,7 +169,7 @@ module _ (run : Run) (crew : Crew) where
   pub may_work : IsCrew run crew → All (λ w. MayWork run w) crew.workers
   may_work whole = λ k d below.
       let m = whole.workers k d below in
-      record { on = All-weaker (λ c. IsOfCrew run crew.plan c) (λ c. IsOn run c) (λ c of. of.on) _ m.each; here = m.here }
+      record { few = omega (arith, whole.few, whole.all, get_or-le-sum_by (λ (w : Berth). length w.contexts) crew.workers k d below); on = All-weaker (λ c. IsOfCrew run crew.plan c) (λ c. IsOn run c) (λ c of. of.on) _ m.each; here = m.here }
 
   -- after a phase it is the same crew
   pub worked : (new : List Berth) → IsCrew run crew → AllHaveWorked run crew.workers new → IsCrew run (with_workers crew new)

@@ -138,8 +138,9 @@ pub record Empties (number : ℕ) (old new : List Berth) : Type 0 where
 
 -- What a phase does.
 
--- a worker that may run: its contexts are of the run and in its engine
+-- a worker that may run: its contexts are of the run and in its engine, and no more than a pipe takes
 pub record MayWork (run : Run) (w : Berth) : Type 0 where
+  pub few : length w.contexts ≤ 32
   pub on : All (λ c. IsOn run c) w.contexts
   pub here : All (λ c. c.engine ≡ w.engine) w.contexts
 
@@ -166,6 +167,11 @@ pub record WorkerHasWorked (run : Run) (old new : Berth) : Type 0 where
   pub engine : new.engine ≡ old.engine
   pub room : new.room ≡ old.room
   pub worked : HaveWorked run (most_ends old.engine) old.contexts new.contexts
+
+-- the workers from this number on hold no context
+abbrev pub AreIdleFrom : ℕ → List Berth → Type 0
+AreIdleFrom from workers = (number : ℕ) (other : Berth) → from ≤ number → number < length workers
+    → (slice_index_or workers number other).contexts ≡ []
 
 -- so each of a list
 pub record AllHaveWorked (run : Run) (old new : List Berth) : Type 0 where

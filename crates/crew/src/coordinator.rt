@@ -1,7 +1,7 @@
-ghost use Rattle.std.specs.Prelude.{◌≡◌, ◌<◌, true, All, length, IfSome, Some};
+ghost use Rattle.std.specs.Prelude.{◌≡◌, ◌<◌, ◌≤◌, true, All, length, IfSome, Some};
 ghost use Rattle.access_record.specs.Buses.{Run};
 ghost use Rattle.context.specs.Contexts.{IsOn, IsSame};
-ghost use Rattle.crew.specs.Crews.{IsCrew, IsCrewBut, AreHome, Empties, TakesBack, MayWork, WorkerHasWorked, AllHaveWorked, count_by, engine_of_worker};
+ghost use Rattle.crew.specs.Crews.{IsCrew, IsCrewBut, AreHome, Empties, TakesBack, MayWork, WorkerHasWorked, AllHaveWorked, AreIdleFrom, count_by, engine_of_worker};
 ghost use Rattle.crew.specs.Played.{IsAtRest, IsAtRestAt, AreAtRest};
 
 use crate::worker::Worker;
@@ -230,7 +230,7 @@ impl Crew {
     fn busy(&self) -> usize {
         let mut busy = 0;
         for worker in &self.workers {
-            if !worker.contexts.is_empty() {
+            if !worker.is_idle() {
                 busy += 1;
             }
         }
@@ -238,8 +238,37 @@ impl Crew {
     }
 }
 
-// The workers run their harts, each in a thread of its own where one can be made.
+// The workers run their harts beside one another. No thread is started for those after the last one
+// that holds a hart.
 fn side_by_side<N: RunName + Send + Sync, R: Threads + Wait + Sync, G: Gate>(
+    rt: &R,
+    banks: &Banks<N>,
+    gate: &G,
+    workers: &mut [Worker],
+)
+    requires manned { All (λ w. MayWork N.run w) workers.old }
+    ensures worked { AllHaveWorked N.run workers.old workers.new }
+{
+    let count = up_to_last_busy(workers);
+    let (first, _idle) = workers.split_at_mut(count);
+    in_threads(rt, banks, gate, first);
+}
+
+// How many workers there are up to the last one that holds a hart.
+fn up_to_last_busy(workers: &[Worker]) -> usize
+    ensures within { result ≤ length workers.now }
+    ensures idle { AreIdleFrom result workers.now }
+{
+    for number in (0..workers.len()).rev() {
+        if !workers[number].is_idle() {
+            return number + 1;
+        }
+    }
+    0
+}
+
+// The workers run their harts, each in a thread of its own where one can be made.
+fn in_threads<N: RunName + Send + Sync, R: Threads + Wait + Sync, G: Gate>(
     rt: &R,
     banks: &Banks<N>,
     gate: &G,

@@ -9,6 +9,7 @@ mod law_on_banks;
 mod law_on_lists;
 mod law_on_stories;
 mod machine;
+mod pipe;
 mod room;
 mod running;
 mod worker;

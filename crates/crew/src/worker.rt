@@ -1,8 +1,9 @@
-ghost use Rattle.std.specs.Prelude.{◌≡◌, ◌++◌, ◌∷◌, ◌<◌, ◌≤◌, [], IfOk, All, length, option_to_list, None, vec_capacity};
-ghost use Rattle.flex_base.specs.declared.engine.Engine.TheVariants as engine;
+ghost use Rattle.std.specs.Prelude.{◌≡◌, ◌≢◌, ◌++◌, ◌∷◌, ◌<◌, ◌≤◌, true, [], IfOk, All, length, option_to_list, None, vec_capacity};
+ghost use Rattle.flex_base.specs.declared.engine.Engine.TheVariants as engines;
 ghost use Rattle.context.specs.Contexts.{IsOn};
 ghost use Rattle.crew.specs.Crews.{HaveWorked, HasWorked, most_ends};
 
+use crate::pipe::run_through;
 use access_record::Bus;
 use context::HartContext;
 use flex_base::Engine;
@@ -26,9 +27,6 @@ impl Model for Worker {
     ghost view = { λ w. record { engine = w.engine; contexts = w.contexts.items; room = vec_capacity w.contexts } };
 }
 
-// So many ends a hart makes in a pipe before the others' turn.
-const PIPE_ENDS: u64 = 16;
-
 impl Worker {
     // A worker that holds no hart, with room for so many.
     pub(crate) fn new(alloc: Global, engine: Engine, room: usize) -> Result<Worker, AllocError>
@@ -50,6 +48,13 @@ impl Worker {
         self.contexts.push_reserved(context);
     }
 
+    // Whether it holds no hart.
+    pub(crate) fn is_idle(&self) -> bool
+        ensures { result ≡ true → self.now.contexts ≡ [] }
+    {
+        self.contexts.is_empty()
+    }
+
     // Gives a hart back, where it has one.
     pub(crate) fn give_back(&mut self) -> Option<HartContext>
         ensures given { self.old.contexts ≡ self.new.contexts ++ option_to_list result }
@@ -63,6 +68,7 @@ impl Worker {
     // Runs each of its harts until it wants another engine, is parked or over, or has made the ends of
     // a phase.
     pub(crate) fn run<B: Bus>(&mut self, bus: &mut B)
+        requires few { length self.old.contexts ≤ 32 }
         requires on { All (λ c. IsOn (B.run bus.old) c) self.old.contexts }
         requires here { All (λ c. c.engine ≡ self.old.engine) self.old.contexts }
         ensures worked { HaveWorked (B.run bus.old) (most_ends self.old.engine) self.old.contexts self.new.contexts }
@@ -89,19 +95,21 @@ impl Worker {
     }
 }
 
-// Runs the harts of a pipe.
+// Runs the harts of a pipe, which pass through its latches beside one another.
 fn run_pipe<B: Bus>(contexts: &mut Vec<HartContext>, bus: &mut B)
+    requires few { length contexts.old.items ≤ 32 }
     requires on { All (λ c. IsOn (B.run bus.old) c) contexts.old.items }
-    requires here { All (λ c. c.engine ≡ engine.Pipe) contexts.old.items }
+    requires here { All (λ c. c.engine ≡ engines.Pipe) contexts.old.items }
     ensures worked { HaveWorked (B.run bus.old) 16 contexts.old.items contexts.new.items }
     ensures room { vec_capacity contexts.new ≡ vec_capacity contexts.old }
     ensures bus { B.run bus.new ≡ B.run bus.old }
 {
-    run_in_turn(Engine::Pipe, contexts, bus);
+    run_through(contexts, bus);
 }
 
-// Runs harts in this engine, one after another.
+// Runs the harts of a kernel or of the host, one after another.
 fn run_in_turn<B: Bus>(engine: Engine, contexts: &mut Vec<HartContext>, bus: &mut B)
+    requires other { engine ≢ engines.Pipe }
     requires on { All (λ c. IsOn (B.run bus.old) c) contexts.old.items }
     requires here { All (λ c. c.engine ≡ engine) contexts.old.items }
     ensures worked { HaveWorked (B.run bus.old) (most_ends engine) contexts.old.items contexts.new.items }
@@ -113,15 +121,16 @@ fn run_in_turn<B: Bus>(engine: Engine, contexts: &mut Vec<HartContext>, bus: &mu
     }
 }
 
-// Runs a hart in its engine.
+// Runs a hart in a kernel or in the host.
 fn run_one<B: Bus>(engine: Engine, context: &mut HartContext, bus: &mut B)
+    requires other { engine ≢ engines.Pipe }
     requires on { IsOn (B.run bus.old) context.old }
     requires here { context.old.engine ≡ engine }
     ensures worked { HasWorked (B.run bus.old) (most_ends engine) context.old context.new }
     ensures bus { B.run bus.new ≡ B.run bus.old }
 {
     match engine {
-        Engine::Pipe => context.run(bus, PIPE_ENDS),
+        Engine::Pipe => unreachable!(),
         Engine::Kernel => Kernel::run_in_place(context, bus),
         Engine::Host => HostSim::run_in_place(context, bus),
     }

@@ -15,3 +15,5 @@ pub mod Taking
 pub mod Wakes
 pub mod Trying
 pub mod Beginning
+pub mod Flying
+pub mod Going

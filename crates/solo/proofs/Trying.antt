@@ -1,5 +1,5 @@
 -- What a step comes to, by what the context wants.
-use Rattle.std.proofs.Common.{◌≡◌, ℕ, ◌<◌, length, get_or, set, Option, Some, refl, ap, sym, subst, ◌∙◌, arith, get_or-set_same}
+use Rattle.std.proofs.Common.{◌≡◌, ℕ, ◌<◌, List, [], ◌∷◌, length, get_or, set, Option, Some, refl, ap, sym, subst, ◌∙◌, arith, get_or-set_same}
 use Rattle.flex_base.specs.Setup.{Setup}
 use Rattle.flex_base.specs.State.{State}
 use Rattle.flex_base.specs.StoryTree.{Want, Asks, Ends, IsOver, IsParked}
@@ -20,11 +20,15 @@ use Rattle.context.specs.declared.wants.Wants.TheVariants as wants
 use Rattle.context.specs.Contexts.{Context, IsOn, IsSame, IsWanting, IsElsewhere, Moves, Goes, Stays, events_in, plan_of}
 use Rattle.context.specs.Obeying.{wants_of, IsFor}
 use Rattle.context.proofs.Keeping.{wants_one}
+use Rattle.pipeline.specs.declared.flight.Flight.{Flight}
+use Rattle.pipeline.specs.Pipes.{AreInFlight}
 use Rattle.solo.specs.Solo.{Solo}
 use Rattle.solo.specs.Standing.{IsAt}
 use Rattle.solo.specs.Playing.{Accesses, Finishes, Rests}
+use Rattle.solo.specs.Engines.{IsFlying}
 use Rattle.solo.proofs.Standing.{harts_are, wants_read}
 use Rattle.solo.proofs.Stepping.{with_hart, holds_still}
+use Rattle.solo.proofs.Flying.{flying_set}
 use Rattle.solo.proofs.Events.{some_history, ask_tells, finish_tells, stays_at, moved_at}
 
 asks_by : (w : Want) (class : Class) → wants_of w ≡ wants.Ask class → (access : Access) × (w ≡ Asks access)
@@ -104,6 +108,10 @@ module _ (setup : Setup) (u : Machine) (now s : Solo) (h : ℕ) (c : Context) (v
   ended_at class next wanting there =
       let ends = ends_by (want_of setup u h) class (wants_read setup u _ s at h c below read (wants.Finish class) wanting) in
       record { at = there; names = turn_of-ends setup u h ends.0 ends.1 ends.2 }
+
+  -- what is in the latches is still its instruction
+  pub flying_at : (new : Context) (bus : Plain) (latches : List (Option Flight)) → AreInFlight (new ∷ []) latches → IsFlying (with_hart s h new bus) h latches
+  flying_at new bus latches flying = flying_set s h new bus latches (omega (arith, below, at.counted)) flying
 
   -- in the engine of its class
   module _ (new : Context) (bus : Plain) (same : IsSame c new) (on : IsOn s.bus.run new) (run_same : bus.run ≡ s.bus.run) where

@@ -5,3 +5,4 @@ pub mod Playing
 pub mod End
 pub mod Begun
 pub mod Room
+pub mod Engines

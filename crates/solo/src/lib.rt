@@ -3,6 +3,7 @@
 //! the plan names.
 #![tactic(auto)]
 
+mod engines;
 mod machine;
 mod room;
 

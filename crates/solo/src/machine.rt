@@ -11,9 +11,11 @@ ghost use Rattle.solo.specs.Solo.{setup_of};
 ghost use Rattle.solo.specs.Standing.{IsAt, IsPlayedOut};
 ghost use Rattle.solo.specs.Playing.{AfterStep, IsTurned, Playing, TellsIdle};
 ghost use Rattle.solo.specs.End.{IsEnd};
+ghost use Rattle.solo.specs.Engines.{IsFlying};
 ghost use Rattle.solo.specs.Begun.{AreBegun};
 ghost use Rattle.solo.specs.Room.{are_empty};
 
+use crate::engines::go_in_engine;
 use crate::room::{Parts, empty_logs, take_apart};
 use access_record::Founder;
 use context::{HartContext, Wants, Went};
@@ -21,6 +23,7 @@ use flex_base::{Engine, HartId, Image, Settings, Stop};
 use hart_story::Hart;
 use journal::HartLog;
 use mem_banks::{Ended, PlainBus};
+use pipeline::Latches;
 use std::alloc::{AllocError, Global};
 use std::marker::Model;
 use transplant_plan::Plan;
@@ -136,8 +139,14 @@ impl SoloMachine {
             → IsAt setup (reach_from setup u order.now) self.new }
         ensures plan { self.new.plan ≡ self.old.plan }
     {
+        let mut latches = Latches::new();
+        let mut last = 0;
         for h in order {
-            self.next(*h);
+            if *h != last {
+                latches = Latches::new();
+                last = *h;
+            }
+            self.next(&mut latches, *h);
         }
     }
 
@@ -258,13 +267,15 @@ impl SoloMachine {
     }
 
     // The hart of this number makes its next event. A number without a hart is passed over.
-    fn next(&mut self, h: u8)
+    fn next(&mut self, latches: &mut Latches, h: u8)
         requires at { (setup : Setup) × (u : Machine) × IsAt setup u self.old }
+        requires flying { IsFlying self.old h latches.old }
         ensures at { (setup : Setup) (u : Machine) → IsAt setup u self.old → IsAt setup (step setup u h) self.new }
+        ensures flying { IsFlying self.new h latches.new }
         ensures plan { self.new.plan ≡ self.old.plan }
     {
         if (h as usize) < self.count() {
-            self.step(h as usize);
+            self.step(latches, h as usize);
         }
     }
 
@@ -291,8 +302,9 @@ impl SoloMachine {
         ensures at { (setup : Setup) (u : Machine) → IsAt setup u self.old → IsTurned setup u h self.new }
         ensures plan { self.new.plan ≡ self.old.plan }
     {
+        let mut latches = Latches::new();
         'turn: for _ in 0..self.most_events() {
-            match self.step(h) {
+            match self.step(&mut latches, h) {
                 Step::Accessed => {}
                 Step::Ended => return,
                 Step::Rested => return,
@@ -302,33 +314,41 @@ impl SoloMachine {
 
     // Makes the next event of a hart, where there is one, with the handover before it where one is
     // due. A hart that waits makes a pulse, and only once the devices have woken it.
-    fn step(&mut self, h: usize) -> Step
+    #[inline(always)]
+    fn step(&mut self, latches: &mut Latches, h: usize) -> Step
         requires hart { h < self.old.settings.harts }
         requires at { (setup : Setup) × (u : Machine) × IsAt setup u self.old }
+        requires flying { IsFlying self.old h latches.old }
         ensures after { (setup : Setup) (u : Machine) → IsAt setup u self.old → AfterStep setup u h result self.new }
+        ensures flying { IsFlying self.new h latches.new }
         ensures plan { self.new.plan ≡ self.old.plan }
     {
-        match self.contexts[h].go(&mut self.bus) {
+        match go_in_engine(latches, &mut self.contexts[h], &mut self.bus) {
             Went::Accessed => Step::Accessed,
             Went::Ended => Step::Ended,
-            Went::Elsewhere(engine) => self.go_over(h, engine),
-            Went::Parked => self.wake(h),
+            Went::Elsewhere(engine) => self.go_over(latches, h, engine),
+            Went::Parked => {
+                *latches = Latches::new();
+                self.wake(h)
+            }
             Went::Over => Step::Rested,
         }
     }
 
     // Hands a hart over to the engine of its next event, and makes the event there.
     #[cold]
-    fn go_over(&mut self, h: usize, engine: Engine) -> Step
+    fn go_over(&mut self, latches: &mut Latches, h: usize, engine: Engine) -> Step
         requires hart { h < self.old.settings.harts }
         requires at { (setup : Setup) × (u : Machine) × IsAt setup u self.old }
         requires elsewhere { (other : Context) → IsElsewhere engine (slice_index_or self.old.contexts h other) }
         ensures after { (setup : Setup) (u : Machine) → IsAt setup u self.old → AfterStep setup u h result self.new }
+        ensures flying { IsFlying self.new h latches.new }
         ensures plan { self.new.plan ≡ self.old.plan }
     {
         let context = &mut self.contexts[h];
         context.move_to(&mut self.bus, engine);
-        match context.go(&mut self.bus) {
+        *latches = Latches::new();
+        match go_in_engine(latches, context, &mut self.bus) {
             Went::Accessed => Step::Accessed,
             Went::Ended => Step::Ended,
             Went::Elsewhere(_) => unreachable!(),

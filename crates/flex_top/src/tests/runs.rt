@@ -128,3 +128,44 @@ fn answers_run_by_the_words(rt: HostRuntime) -> Result<(), Fail> {
     }
     Ok(())
 }
+
+// The calls of this run are those that take the plan, the image and the input, one that says two bytes,
+// one that starts the trace and one that adds all of it.
+const CALLING: &str = "run img out --ram=1 --plan=few --input=host";
+
+#[test]
+fn answers_run_by_the_call_that_fails(rt: HostRuntime) -> Result<(), Fail> {
+    for (call, status, said, written) in [
+        (0, READ_FAULT, "", false),
+        (1, READ_FAULT, "", false),
+        (2, READ_FAULT, "", false),
+        (3, WRITE_FAULT, "", false),
+        (4, WRITE_FAULT, "Hi", false),
+        (5, WRITE_FAULT, "Hi", true),
+        (6, ENDED, "Hi", true),
+    ] {
+        assert_call_of_run(&rt, rt.alloc(), call, status, said, written)?;
+    }
+    Ok(())
+}
+
+// That the run where this call fails has this answer, says these bytes, and has started the trace or
+// not. Only one that has ended has text in it.
+fn assert_call_of_run<R: Threads + Wait + Sync + Abort>(
+    rt: &R,
+    alloc: Global,
+    call: u64,
+    status: u8,
+    said: &str,
+    written: bool,
+) -> Result<(), AllocError> {
+    let (answer, outer) = run_line(rt, alloc, &SAYING, CALLING, &[call])?;
+    assert!(rt; status_code(&answer) == status, "at {call}");
+    assert!(rt; outer.said() == said.as_bytes(), "at {call}");
+    assert!(rt; outer.written("out").is_some() == written, "at {call}");
+    assert!(rt;
+        text_of(&outer).is_empty() == (status != ENDED),
+        "at {call}"
+    );
+    Ok(())
+}

@@ -1,22 +1,18 @@
--- Each worker may run, and what a call left of it is what stands there now.
-use Rattle.std.proofs.Common.{rules, ◌≡◌, length, sym, subst, slice_index_or}
-use Rattle.crew.specs.Crews.{Berth, MayWork}
-use Rattle.crew.proofs.Working.{same_worked}
+-- The first workers may run, and those after them hold no hart.
+use Rattle.std.proofs.Common.{◌≡◌, ◌++◌, List, sym, subst}
+use Rattle.crew.specs.Crews.{Berth, AllHaveWorked}
+use Rattle.crew.proofs.Working.{first_may, rest_idle}
 use Rattle.crew.proofs.coordinator.side_by_side.Goals as goal
 
-pub for_each_mut-requires-clause-accepts : goal.for_each_mut-requires-clause-accepts
-for_each_mut-requires-clause-accepts g c κs within = λ i p below is.
-    let May : Berth → Type 0 = λ w. MayWork g.N.RunName.run w in
-    (subst May (sym is) (c.requires.manned i p.now below), search rules)
+pub in_threads-requires-clause-manned : goal.in_threads-requires-clause-manned
+in_threads-requires-clause-manned g c κs within =
+    let cut = c.split_at_mut-first.ensures in
+    first_may g.N.RunName.run c.args.workers.now c.split_at_mut-first.result.0.now c.split_at_mut-first.result.1.now cut.value c.requires.manned
 
 pub returns : goal.returns
 returns g c =
-    let counted : length c.for_each_mut.new.s ≡ length c.args.workers.now = search rules in
+    let cut = c.split_at_mut-first.ensures in
     record {
-      worked = record {
-        counted = counted;
-        each = λ i d below.
-            let call = (c.for_each_mut.ensures i d below).1 in
-            same_worked g.N.RunName.run (slice_index_or c.args.workers.now i d) (slice_index_or c.for_each_mut.new.s i d) _ _ call.argument_is call.left call.call;
-      };
+      worked = rest_idle g.N.RunName.run c.args.workers.now c.split_at_mut-first.result.0.now c.split_at_mut-first.result.1.now c.in_threads.new.workers
+          c.up_to_last_busy-count.result cut.value cut.front_len c.in_threads.ensures.worked c.up_to_last_busy-count.ensures.idle;
     }

@@ -5,13 +5,6 @@ use Rattle.crew.specs.Crews.{HasWorked, most_ends}
 use Rattle.crew.proofs.Working.{run_worked}
 use Rattle.crew.proofs.worker.run_one.Goals as goal
 
-pub returns-in-Pipe-clause-worked : goal.returns-in-Pipe-clause-worked
-returns-in-Pipe-clause-worked g c =
-    let new = c.run.new.self in
-    let Worked : Engine → Type 0 = λ e. HasWorked (g.B.Bus.run c.args.bus.now) (most_ends e) c.args.context.now new in
-    subst Worked (sym c.in-Pipe.is)
-    (run_worked (g.B.Bus.run c.args.bus.now) 16 _ _ c.args.context.now new c.run.ensures.ran c.run.ensures.engine c.run.ensures.same c.run.ensures.on)
-
 pub returns-in-Kernel-clause-worked : goal.returns-in-Kernel-clause-worked
 returns-in-Kernel-clause-worked g c =
     let new = c.run_in_place.new.ctx in

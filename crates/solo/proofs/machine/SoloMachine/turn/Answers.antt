@@ -3,11 +3,16 @@ use Rattle.std.proofs.Common.{◌<◌, refl, subst, ◌∙◌, arith}
 use Rattle.solo.specs.Playing.{AfterStep}
 use Rattle.solo.specs.declared.machine.Step.{Step}
 use Rattle.solo.proofs.Standing.{harts_are}
+use Rattle.solo.proofs.Flying.{new_flying}
 use Rattle.solo.proofs.Rounds.{in_turn_on, turned_all, turned_once, turned_none, turned_most}
 use Rattle.solo.proofs.machine.SoloMachine.turn.Goals as goal
 
 pub turn-init : goal.turn-init
-turn-init c = (refl, λ setup u at. record { now = u; at = at; reaches = refl; many = omega arith })
+turn-init c = (
+  refl,
+  λ setup u at. record { now = u; at = at; reaches = refl; many = omega arith },
+  new_flying c.args.self.now c.args.h _ c.new-latches.ensures,
+)
 
 pub step-requires-clause-hart : goal.step-requires-clause-hart
 step-requires-clause-hart c =
@@ -28,6 +33,7 @@ turn-preserved c = (
       let below : c.args.h < setup.harts = omega (arith, c.requires.hart, harts_are setup u _ c.args.self.now at) in
       let Stepped : Step → Type 0 = λ st. AfterStep setup was.now c.args.h st c.step.new.self in
       in_turn_on setup u c.args.h c.turn.counter c.turn.self c.step.new.self below was (subst Stepped c.in-Accessed.is (c.step.ensures.after setup was.now was.at)),
+  c.step.ensures.flying,
 )
 
 pub returns-in-Ended-clause-at : goal.returns-in-Ended-clause-at

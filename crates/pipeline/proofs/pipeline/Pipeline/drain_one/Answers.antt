@@ -1,0 +1,13 @@
+-- The last hart is taken out.
+use Rattle.std.proofs.Common.{rules, ◌≡◌, ◌+◌, ◌-◌, ℕ, length, arith, ap, ◌∙◌}
+use Rattle.pipeline.specs.Pipes.{Pipe}
+use Rattle.pipeline.proofs.Holding.{last_out}
+use Rattle.pipeline.proofs.pipeline.Pipeline.drain_one.Goals as goal
+
+pub returns-clause-out : goal.returns-clause-out
+returns-clause-out c =
+    let out = c.take_out.ensures.out in
+    let Length : Pipe → ℕ = λ p. length p.held in
+    let count : c.len-count.result ≡ length c.args.self.now.held = search rules in
+    let last : c.len-count.result - 1 + 1 ≡ length c.args.self.now.held = omega (arith, count, c.if-count-eq0.false) in
+    last_out c.args.self.now.held c.take_out.new.self.held (c.len-count.result - 1) c.take_out.result last out.was out.left

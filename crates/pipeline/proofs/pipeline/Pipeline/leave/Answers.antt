@@ -1,0 +1,27 @@
+-- The hart that was found stands between those before it and those after it.
+use Rattle.std.proofs.Common.{◌≡◌, ◌<◌, ℕ, suc, List, length, take, drop, sym, ap, subst, ◌∙◌}
+use Rattle.context.specs.Contexts.{Context}
+use Rattle.pipeline.specs.Pipes.{Pipe, NoneElsewhere}
+use Rattle.pipeline.proofs.Holding.{parted}
+use Rattle.pipeline.proofs.pipeline.Pipeline.leave.Goals as goal
+
+pub returns-in-Some-clause-out : goal.returns-in-Some-clause-out
+returns-in-Some-clause-out c =
+    let held = c.args.self.now.held in
+    let place = c.in-Some.place in
+    let out = c.take_out.ensures.out in
+    let Held : Pipe → List Context = λ p. p.held in
+    let Within : List Context → Type 0 = λ l. place < length l in
+    let inside : place < length held = subst Within (c.deref.ensures.value ∙ ap Held c.self.view_is) c.in-Some.ensures.found.1 in
+    record {
+      before = take place held;
+      after = drop (suc place) held;
+      was = parted held place c.take_out.result inside out.was;
+      left = out.left;
+      made = out.made;
+    }
+
+pub returns-in-None-clause-none : goal.returns-in-None-clause-none
+returns-in-None-clause-none c =
+    let Held : Pipe → List Context = λ p. p.held in
+    subst NoneElsewhere (c.deref.ensures.value ∙ ap Held c.self.view_is) c.in-None.ensures.none

@@ -1,0 +1,173 @@
+ghost use Rattle.std.specs.Prelude.{◌≡◌, ◌<◌, ◌≤◌, ◌+◌, [], ◌∷◌, ◌++◌, length, IfOk, IfSome, IfNone};
+ghost use Rattle.flex_base.specs.declared.engine.Engine.{Engine};
+ghost use Rattle.flex_base.specs.declared.engine.Engine.TheVariants as engine;
+ghost use Rattle.context.specs.Contexts.{IsElsewhere};
+ghost use Rattle.pipeline.specs.Pipes.{Passes, moved_places, IsNearer, IsOut, AreOn, NoneElsewhere, AreInFlight, HasHart, IsTakenOut};
+
+use crate::flight::{Flight, other_engine};
+use crate::latches::Latches;
+use access_record::Bus;
+use context::HartContext;
+use std::alloc::{AllocError, Global};
+use std::marker::Model;
+
+// So many harts are held at most.
+const MOST_HELD: usize = 32;
+
+/// A pipe with the harts that it holds.
+pub struct Pipeline {
+    // Room for 32.
+    held: Vec<HartContext>,
+    latches: Latches,
+    // Where select looks first for a hart whose instruction it starts.
+    next: u8,
+    // How many events the last cycle made.
+    made: u64,
+}
+
+impl Model for Pipeline {
+    ghost use Rattle.std.specs.Prelude.{vec_capacity};
+    ghost use Rattle.pipeline.specs.Pipes.{Pipe, pipe_of, IsPipe};
+
+    ghost Value = { Pipe };
+
+    ghost view = { λ p. pipe_of p.held.items p.latches p.made };
+
+    ghost invariant = { λ p. IsPipe p.held.items p.latches (vec_capacity p.held) };
+}
+
+impl Pipeline {
+    /// A pipe that holds no hart.
+    pub fn new(alloc: Global) -> Result<Pipeline, AllocError>
+        ensures empty { IfOk result (λ p. p.held ≡ []) }
+        ensures made { IfOk result (λ p. p.made ≡ 0) }
+    {
+        Ok(Pipeline {
+            held: Vec::with_capacity(alloc, MOST_HELD)?,
+            latches: Latches::new(),
+            next: 0,
+            made: 0,
+        })
+    }
+
+    /// Takes a hart in.
+    ///
+    /// The hart is in the pipe, and fewer than 32 are held. One that comes back in the middle of an
+    /// instruction goes on where the instruction is: it is laid into the latch before the one in which
+    /// its next event is made, if that latch is free.
+    pub fn admit(&mut self, ctx: HartContext)
+        requires here { ctx.engine ≡ engine.Pipe }
+        requires room { length self.old.held < 32 }
+        ensures held { self.new.held ≡ self.old.held ++ ctx ∷ [] }
+        ensures made { self.new.made ≡ self.old.made }
+    {
+        let place = self.count();
+        self.latches.lay(place, &ctx);
+        self.held.push_reserved(ctx);
+    }
+
+    /// Moves each latch on by one, and lets the harts in them make their events, that in end first.
+    /// Then select takes the next hart, in turn, that isn't in flight and has an event due.
+    ///
+    /// A hart makes one event at most. Its instruction leaves the latches with its end, and where what
+    /// comes next isn't the pipe's.
+    pub fn cycle<B: Bus>(&mut self, bus: &mut B)
+        requires on { AreOn (B.run bus.old) self.old.held }
+        ensures passes { Passes (B.run bus.old) (B.history bus.old) (B.history bus.new) self.new.made (moved_places self.old) self.old.held self.new.held }
+        ensures nearer { IsNearer self.old self.new }
+        ensures on { AreOn (B.run bus.old) self.new.held }
+        ensures bus { B.run bus.new ≡ B.run bus.old }
+    {
+        let made = self.latches.advance(&mut self.held, bus);
+        self.made = u64::from(made.ends) + u64::from(made.accesses);
+        if let Some(flight) = self.latches.select(&self.held, self.next) {
+            self.next = flight.place + 1;
+        }
+    }
+
+    /// Takes out the first hart that wants another engine.
+    pub fn leave(&mut self) -> Option<HartContext>
+        ensures out { IfSome result (λ c. IsOut self.old self.new c) }
+        ensures elsewhere { IfSome result (λ c. (to : Engine) × IsElsewhere to c) }
+        ensures none { IfNone result (NoneElsewhere self.old.held) }
+        ensures stays { IfNone result (self.new ≡ self.old) }
+    {
+        match first_elsewhere(&self.held) {
+            Some(place) => Some(self.take_out(place)),
+            None => None,
+        }
+    }
+
+    /// Takes out the hart that was admitted last.
+    pub fn drain_one(&mut self) -> Option<HartContext>
+        ensures out { IfSome result (λ c. self.old.held ≡ self.new.held ++ c ∷ []) }
+        ensures none { IfNone result (self.old.held ≡ []) }
+        ensures stays { IfNone result (self.new ≡ self.old) }
+        ensures made { self.new.made ≡ self.old.made }
+    {
+        let count = self.held.len();
+        if count == 0 {
+            return None;
+        }
+        Some(self.take_out(count - 1))
+    }
+
+    /// How many harts are held.
+    pub fn count(&self) -> u8
+        ensures { result ≡ length self.now.held }
+    {
+        self.held.len() as u8
+    }
+
+    /// How many events were made in the last cycle, 0 before the first.
+    pub fn made(&self) -> u64
+        ensures { result ≡ self.now.made }
+    {
+        self.made
+    }
+
+    /// What is in the latches, from select to end.
+    pub fn latches(&self) -> [Option<Flight>; 6]
+        ensures latches { result ≡ self.now.latches }
+        ensures flights { AreInFlight self.now.held result }
+    {
+        self.latches.flights()
+    }
+
+    /// Ends a pipe that holds no hart.
+    pub fn discard(self)
+        requires none { self.held ≡ [] }
+    {
+        let Pipeline {
+            held,
+            latches: _,
+            next: _,
+            made: _,
+        } = self;
+        held.destroy_empty();
+    }
+
+    // Takes a hart out, and its instruction out of the latches.
+    fn take_out(&mut self, place: usize) -> HartContext
+        requires place { place < length self.old.held }
+        ensures out { IsTakenOut place self.old self.new result }
+    {
+        let context = self.held.remove(place);
+        self.latches.take_out(place as u8);
+        context
+    }
+}
+
+// The place of the first hart that wants another engine.
+fn first_elsewhere(held: &[HartContext]) -> Option<usize>
+    ensures found { IfSome result (λ place. HasHart held.now place (λ c. (to : Engine) × IsElsewhere to c)) }
+    ensures none { IfNone result (NoneElsewhere held.now) }
+{
+    for place in 0..held.len() {
+        match other_engine(&held[place]) {
+            Some(_) => return Some(place),
+            None => {}
+        }
+    }
+    None
+}
