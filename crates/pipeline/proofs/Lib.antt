@@ -7,3 +7,4 @@ pub mod Nearing
 pub mod Holding
 pub mod Laying
 pub mod Trying
+pub mod Turns

@@ -1,5 +1,5 @@
 -- An event comes nearer where none was made.
-use Rattle.std.proofs.Common.{◌≡◌, ◌≢◌, ◌⊎◌, ℕ, zero, suc, ◌+◌, ◌-◌, ◌<◌, ◌≤◌, Bool, true, false, nat_lt, nat_eq, min, if◌then◌else◌, ◌||◌, List, [], ◌∷◌, ◌++◌, take, drop, length, slice_index_or, slice_set, Option, None, Some, IfSome, IfNone, inl, inr, refl, sym, ap, subst, ◌∙◌, arith}
+use Rattle.std.proofs.Common.{◌≡◌, ◌≢◌, ◌⊎◌, ℕ, zero, suc, ◌+◌, ◌-◌, ◌<◌, ◌≤◌, Bool, true, false, nat_lt, nat_eq, min, if◌then◌else◌, ◌||◌, List, [], ◌∷◌, ◌++◌, take, drop, length, slice_index_or, slice_set, Option, None, Some, IfSome, IfNone, MatchOption, inl, inr, refl, sym, ap, subst, ◌∙◌, arith}
 use Rattle.std.proofs.Math.Nat.{min-le_left, min-le_right, min-eq_left, min-eq_right}
 use Rattle.std.proofs.lemmas.Bool.{cases_lt, lt-ltb}
 use Rattle.flex_base.specs.declared.engine.Engine.{Engine}
@@ -90,7 +90,7 @@ wait_more latch None rest each wait = wait
 wait_more latch (Some f) rest each wait = ((each f refl).0, (each f refl).1, wait)
 
 -- a hart that wants an event here makes one
-wants_one_here : (c : Context) → IsWantedIn c engine.Pipe → c.engine ≡ engine.Pipe → MakesNone c → ⊥
+pub wants_one_here : (c : Context) → IsWantedIn c engine.Pipe → c.engine ≡ engine.Pipe → MakesNone c → ⊥
 wants_one_here c wanted here none =
     let (w, wanting, for_it) = wanted in
     let For : Engine → Type 0 = λ e. IsFor (plan_of c) w e in
@@ -188,6 +188,20 @@ module _ (run : Run) (before after : Option History) (made : Made) (latches left
         place x inside at wanted (ap Engine_of (sym at) ∙ here place x inside))
   ]
 
+-- a turn stays within the harts
+turn_within : (next now : ℕ) (latches : List (Option Flight)) (held : List Context) (found : Option Flight) → next ≤ length held
+    → IfSome found (λ f. MayStart held latches f) → MatchOption found (now ≡ next) (λ f. now ≡ f.place + 1) → now ≤ length held
+turn_within next now latches held (Some f) within may goes =
+    let (some, most, out, hart_there) = may in
+    let (hart, there, is, due) = hart_there in
+    omega (arith, there, goes)
+turn_within next now latches held None within may goes = omega (arith, within, goes)
+
+some_may : (held : List Context) (latches selected : List (Option Flight)) (found : Option Flight)
+    → IfSome found (λ f. MayStart held latches f × (selected ≡ slice_set latches 0 (Some f))) → IfSome found (λ f. MayStart held latches f)
+some_may held latches selected (Some f) some = some.0
+some_may held latches selected None some = some
+
 -- What the type of a pipe keeps.
 module _ (run : Run) (before after : Option History) (made : Made) (latches left : List (Option Flight)) (items lent new : List Context) (count : ℕ)
     (value : lent ≡ items) (counted : length lent ≡ count) (advanced : HasAdvanced run before after made latches left lent new) where
@@ -201,20 +215,23 @@ module _ (run : Run) (before after : Option History) (made : Made) (latches left
       let In : List (Option Flight) → Type 0 = λ fs. AreInFlight held fs in
       subst In (sym none.1) flights
 
-  pub keeps : (capacity : ℕ) → IsPipe items latches capacity → (AreHere lent → AreHere new) → AreInFlight new left
+  pub keeps : (next capacity : ℕ) → IsPipe items latches next capacity → (AreHere lent → AreHere new) → AreInFlight new left
       → (read : List Context) → read ≡ take count (new ++ drop (length new) items) → (found : Option Flight) (selected : List (Option Flight))
       → IfSome found (λ f. MayStart read left f × (selected ≡ slice_set left 0 (Some f)))
       → IfNone found (NoneMayStart read left 0 (length read) × (selected ≡ left))
-      → IsPipe (take count (new ++ drop (length new) items)) selected capacity
-  keeps capacity pipe here flights read read_is found selected some none =
+      → (now : ℕ) → MatchOption found (now ≡ next) (λ f. now ≡ f.place + 1)
+      → IsPipe (take count (new ++ drop (length new) items)) selected now capacity
+  keeps next capacity pipe here flights read read_is found selected some none now goes =
       let held = held_is run before after made latches left items lent new count value counted advanced in
-      let Is : List Context → Type 0 = λ h. IsPipe h selected capacity in
+      let Is : List Context → Type 0 = λ h. IsPipe h selected now capacity in
       let Here : List Context → Type 0 = λ h. AreHere h in
       let Found : List Context → Type 0 = λ h. IfSome found (λ f. MayStart h left f × (selected ≡ slice_set left 0 (Some f))) in
       let Nobody : List Context → Type 0 = λ h. IfNone found (NoneMayStart h left 0 (length h) × (selected ≡ left)) in
       let Length : List Context → ℕ = λ h. length h in
       subst Is (sym held) (record {
         few = omega (arith, pipe.few, length_advanced run before after made latches left lent new advanced, ap Length value);
+        turn = turn_within next now left new found (omega (arith, pipe.turn, length_advanced run before after made latches left lent new advanced, ap Length value))
+        (some_may new left selected found (subst Found (read_is ∙ held) some)) goes;
         here = here (subst Here (sym value) pipe.here);
         flights = select_keeps new found selected flights (subst Found (read_is ∙ held) some) (subst Nobody (read_is ∙ held) none);
         room = pipe.room;

@@ -1,5 +1,5 @@
 -- None of some harts may start.
-use Rattle.std.proofs.Common.{◌≡◌, ℕ, ◌+◌, false, List, slice_index_or, Option, None, Some, IfNone, inl, inr, subst, arith}
+use Rattle.std.proofs.Common.{◌≡◌, ℕ, ◌+◌, false, List, slice_index_or, Option, None, Some, IfSome, IfNone, inl, inr, subst, arith}
 use Rattle.std.proofs.lemmas.Bool.{cases_eq, cases_lt}
 use Rattle.context.specs.Contexts.{Context}
 use Rattle.context.specs.Runs.{MakesNone}
@@ -28,3 +28,7 @@ none_joined held latches from middle to one two k c at_least below free is = eli
 pub none_follows : (found : Option Flight) (A B : Type 0) → (A → B) → IfNone found A → IfNone found B
 none_follows None A B f a = f a
 none_follows (Some x) A B f a = a
+
+pub some_follows : (found : Option Flight) (A B : Flight → Type 0) → ((f : Flight) → A f → B f) → IfSome found A → IfSome found B
+some_follows (Some f) A B follows a = follows f a
+some_follows None A B follows a = a

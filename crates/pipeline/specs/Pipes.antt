@@ -43,10 +43,12 @@ flights_in slots = map flight_in slots
 abbrev pub no_flights : List (Option Flight)
 no_flights = None ∷ None ∷ None ∷ None ∷ None ∷ None ∷ []
 
--- the harts that are held, in the order in which they were admitted, what is in the latches, and the events of the last cycle
+-- the harts that are held, in the order in which they were admitted, what is in the latches, the place of whose turn it is in select,
+-- and the events of the last cycle
 pub record Pipe : Type 0 where
   pub held : List Context
   pub latches : List (Option Flight)
+  pub next : ℕ
   pub made : ℕ
 
 -- the hart of what is in a latch
@@ -76,8 +78,8 @@ least_wait latch (f ∷ rest) = min (wait_at latch f) (least_wait (suc latch) re
 abbrev pub wait_of : Pipe → ℕ
 wait_of pipe = least_wait 0 pipe.latches
 
-abbrev pub pipe_of : List Context → List (Option Flight) → ℕ → Pipe
-pipe_of held latches made = record { held = held; latches = latches; made = made }
+abbrev pub pipe_of : List Context → List (Option Flight) → ℕ → ℕ → Pipe
+pipe_of held latches next made = record { held = held; latches = latches; next = next; made = made }
 
 -- each latch's content goes to the next one; what was in end has left
 abbrev pub moved : List (Option Flight) → List (Option Flight)
@@ -135,8 +137,9 @@ abbrev pub AreHere : List Context → Type 0
 AreHere held = All (λ c. c.engine ≡ engine.Pipe) held
 
 -- what the type of a pipe keeps
-pub record IsPipe (held : List Context) (latches : List (Option Flight)) (capacity : ℕ) : Type 0 where
+pub record IsPipe (held : List Context) (latches : List (Option Flight)) (next capacity : ℕ) : Type 0 where
   pub few : length held ≤ 32
+  pub turn : next ≤ length held
   pub here : AreHere held
   pub flights : AreInFlight held latches
   pub room : capacity ≡ 32
@@ -160,12 +163,17 @@ abbrev pub IsNearer : Pipe → Pipe → Type 0
 IsNearer old new = (place : ℕ) (c : Context) → place < length old.held → slice_index_or old.held place c ≡ c → IsWantedIn c engine.Pipe
     → (0 < new.made) ⊎ (wait_of new < wait_of old)
 
+-- whose turn it is once the hart at this place is taken out, and those after it have moved up
+abbrev pub next_without : ℕ → ℕ → ℕ
+next_without place next = if nat_lt place next then next - 1 else next
+
 -- a hart that was held isn't any more, and all others are as before, in their order
 pub record IsOut (old new : Pipe) (c : Context) : Type 0 where
   pub before : List Context
   pub after : List Context
   pub was : old.held ≡ before ++ c ∷ after
   pub left : new.held ≡ before ++ after
+  pub next : new.next ≡ next_without (length before) old.next
   pub made : new.made ≡ old.made
 
 -- the hart at this place was taken out, and its instruction
@@ -173,6 +181,7 @@ pub record IsTakenOut (place : ℕ) (old new : Pipe) (c : Context) : Type 0 wher
   pub was : slice_index_or old.held place c ≡ c
   pub left : new.held ≡ take place old.held ++ drop (suc place) old.held
   pub latches : new.latches ≡ without_in place old.latches
+  pub next : new.next ≡ next_without place old.next
   pub made : new.made ≡ old.made
 
 -- each hart that is held is of this run
@@ -258,3 +267,25 @@ MayStart held latches f = (0 < f.due) × (f.due ≤ 5) × (is_among latches f.pl
 abbrev pub NoneMayStart : List Context → List (Option Flight) → ℕ → ℕ → Type 0
 NoneMayStart held latches from to = (place : ℕ) (c : Context) → from ≤ place → place < to → is_among latches place ≡ false
     → slice_index_or held place c ≡ c → MakesNone c
+
+-- The turn of select goes from a place to the last one, and from the first one on to that place.
+
+-- none of the harts that come before this place may start
+pub record NoneBefore (held : List Context) (latches : List (Option Flight)) (next place : ℕ) : Type 0 where
+  pub on : next ≤ place → NoneMayStart held latches next place
+  pub round : place < next → NoneMayStart held latches next (length held) × NoneMayStart held latches 0 place
+
+-- how many of so many places come before this one
+abbrev pub places_before : ℕ → ℕ → ℕ → ℕ
+places_before count next place = if nat_lt place next then count - next + place else place - next
+
+-- select started the hart whose turn it was, after which it is that of the next place; or none may start, and the turn is as before
+abbrev pub IsTurn : List Context → List (Option Flight) → ℕ → ℕ → Type 0
+IsTurn held [] next after = ⊥
+IsTurn held (Some f ∷ rest) next after = MayStart held (None ∷ rest) f × NoneBefore held (None ∷ rest) next f.place × (after ≡ suc f.place)
+IsTurn held (None ∷ rest) next after = NoneMayStart held (None ∷ rest) 0 (length held) × (after ≡ next)
+
+-- each hart that has an event due and isn't in flight is nearer to its turn
+abbrev pub AreNearerToStart : Pipe → Pipe → Type 0
+AreNearerToStart old new = (place : ℕ) (c : Context) → place < length new.held → slice_index_or new.held place c ≡ c → IsWantedIn c engine.Pipe
+    → is_among new.latches place ≡ false → places_before (length new.held) new.next place < places_before (length old.held) old.next place

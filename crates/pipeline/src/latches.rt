@@ -3,7 +3,7 @@ ghost use Rattle.flex_base.specs.declared.engine.Engine.TheVariants as engine;
 ghost use Rattle.context.specs.Contexts.{Context, IsWantedIn};
 ghost use Rattle.context.specs.declared.wants.Wants.TheVariants as Wants;
 ghost use Rattle.pipeline.specs.declared.flight.Flight.{Flight};
-ghost use Rattle.pipeline.specs.Pipes.{flight_in, flights_in, no_flights, moved, without_in, is_of, is_among, IsAt, AreOn, AreHere, AreInFlight, AreMoving, HasAdvanced, HasWorked, IsLeft, IsGoingOn, HasLaid, HasHart, IsDue, MayStart, NoneMayStart};
+ghost use Rattle.pipeline.specs.Pipes.{flight_in, flights_in, no_flights, moved, without_in, is_of, is_among, IsAt, AreOn, AreHere, AreInFlight, AreMoving, HasAdvanced, HasWorked, IsLeft, IsGoingOn, HasLaid, HasHart, IsDue, MayStart, NoneMayStart, NoneBefore};
 
 use crate::flight::{
     EMPTY, END, FETCH, Flight, MEMORY, Made, due_here, due_latch, is_empty, packed, read, without,
@@ -107,11 +107,12 @@ impl Latches {
         }
     }
 
-    /// Takes the next hart, in turn from this place on, that isn't in flight and has an event due,
-    /// and lays its instruction into select, which is free.
+    /// Takes the next hart, in turn from this place on and round, that isn't in flight and has an
+    /// event due, and lays its instruction into select, which is free.
     pub fn select(&mut self, held: &[HartContext], next: u8) -> Option<Flight>
         requires few { length held.now ≤ 32 }
         ensures found { IfSome result (λ f. MayStart held.now self.old f × (self.new ≡ slice_set self.old 0 (Some f))) }
+        ensures turn { IfSome result (λ f. NoneBefore held.now self.old next f.place) }
         ensures none { IfNone result (NoneMayStart held.now self.old 0 (length held.now) × (self.new ≡ self.old)) }
     {
         let selected = select(held, &self.slots, usize::from(next));
@@ -228,6 +229,7 @@ fn goes_on(place: u8, latch: u8, context: &HartContext) -> u8
 fn select(held: &[HartContext], slots: &[u8; 6], next: usize) -> Option<Flight>
     requires few { length held.now ≤ 32 }
     ensures found { IfSome result (λ f. MayStart held.now (flights_in slots.now) f) }
+    ensures turn { IfSome result (λ f. NoneBefore held.now (flights_in slots.now) next f.place) }
     ensures none { IfNone result (NoneMayStart held.now (flights_in slots.now) 0 (length held.now)) }
 {
     let next = next.min(held.len());
@@ -242,6 +244,7 @@ fn first_due(held: &[HartContext], slots: &[u8; 6], from: usize, to: usize) -> O
     requires few { length held.now ≤ 32 }
     requires within { to ≤ length held.now }
     ensures found { IfSome result (λ f. MayStart held.now (flights_in slots.now) f) }
+    ensures first { IfSome result (λ f. (from ≤ f.place) × (f.place < to) × NoneMayStart held.now (flights_in slots.now) from f.place) }
     ensures none { IfNone result (NoneMayStart held.now (flights_in slots.now) from to) }
 {
     for place in from..to {

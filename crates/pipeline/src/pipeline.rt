@@ -1,8 +1,8 @@
-ghost use Rattle.std.specs.Prelude.{◌≡◌, ◌<◌, ◌≤◌, ◌+◌, [], ◌∷◌, ◌++◌, length, IfOk, IfSome, IfNone};
+ghost use Rattle.std.specs.Prelude.{◌≡◌, ◌<◌, ◌≤◌, ◌+◌, [], ◌∷◌, ◌++◌, Bool, length, MatchOption, IfOk, IfSome, IfNone};
 ghost use Rattle.flex_base.specs.declared.engine.Engine.{Engine};
 ghost use Rattle.flex_base.specs.declared.engine.Engine.TheVariants as engine;
 ghost use Rattle.context.specs.Contexts.{IsElsewhere};
-ghost use Rattle.pipeline.specs.Pipes.{Passes, moved_places, IsNearer, IsOut, AreOn, NoneElsewhere, AreInFlight, HasHart, IsTakenOut};
+ghost use Rattle.pipeline.specs.Pipes.{Passes, moved_places, IsNearer, IsTurn, AreNearerToStart, next_without, IsOut, AreOn, NoneElsewhere, AreInFlight, HasHart, HasLaid, IsTakenOut};
 
 use crate::flight::{Flight, other_engine};
 use crate::latches::Latches;
@@ -31,15 +31,16 @@ impl Model for Pipeline {
 
     ghost Value = { Pipe };
 
-    ghost view = { λ p. pipe_of p.held.items p.latches p.made };
+    ghost view = { λ p. pipe_of p.held.items p.latches p.next p.made };
 
-    ghost invariant = { λ p. IsPipe p.held.items p.latches (vec_capacity p.held) };
+    ghost invariant = { λ p. IsPipe p.held.items p.latches p.next (vec_capacity p.held) };
 }
 
 impl Pipeline {
     /// A pipe that holds no hart.
     pub fn new(alloc: Global) -> Result<Pipeline, AllocError>
         ensures empty { IfOk result (λ p. p.held ≡ []) }
+        ensures turn { IfOk result (λ p. p.next ≡ 0) }
         ensures made { IfOk result (λ p. p.made ≡ 0) }
     {
         Ok(Pipeline {
@@ -59,6 +60,8 @@ impl Pipeline {
         requires here { ctx.engine ≡ engine.Pipe }
         requires room { length self.old.held < 32 }
         ensures held { self.new.held ≡ self.old.held ++ ctx ∷ [] }
+        ensures laid { (laid : Bool) × HasLaid (length self.old.held) ctx self.old.latches self.new.latches laid }
+        ensures turn { self.new.next ≡ self.old.next }
         ensures made { self.new.made ≡ self.old.made }
     {
         let place = self.count();
@@ -70,19 +73,22 @@ impl Pipeline {
     /// Then select takes the next hart, in turn, that isn't in flight and has an event due.
     ///
     /// A hart makes one event at most. Its instruction leaves the latches with its end, and where what
-    /// comes next isn't the pipe's.
+    /// comes next isn't the pipe's. A hart that has an event due and isn't in flight is nearer to its
+    /// turn after each cycle.
     pub fn cycle<B: Bus>(&mut self, bus: &mut B)
         requires on { AreOn (B.run bus.old) self.old.held }
         ensures passes { Passes (B.run bus.old) (B.history bus.old) (B.history bus.new) self.new.made (moved_places self.old) self.old.held self.new.held }
         ensures nearer { IsNearer self.old self.new }
+        ensures turn { IsTurn self.new.held self.new.latches self.old.next self.new.next }
+        ensures fair { AreNearerToStart self.old self.new }
         ensures on { AreOn (B.run bus.old) self.new.held }
         ensures bus { B.run bus.new ≡ B.run bus.old }
     {
         let made = self.latches.advance(&mut self.held, bus);
         self.made = u64::from(made.ends) + u64::from(made.accesses);
-        if let Some(flight) = self.latches.select(&self.held, self.next) {
-            self.next = flight.place + 1;
-        }
+        let selected = self.latches.select(&self.held, self.next);
+        let next = turn_after(selected, self.next);
+        self.next = next;
     }
 
     /// Takes out the first hart that wants another engine.
@@ -101,6 +107,7 @@ impl Pipeline {
     /// Takes out the hart that was admitted last.
     pub fn drain_one(&mut self) -> Option<HartContext>
         ensures out { IfSome result (λ c. self.old.held ≡ self.new.held ++ c ∷ []) }
+        ensures turn { IfSome result (λ c. self.new.next ≡ next_without (length self.new.held) self.old.next) }
         ensures none { IfNone result (self.old.held ≡ []) }
         ensures stays { IfNone result (self.new ≡ self.old) }
         ensures made { self.new.made ≡ self.old.made }
@@ -154,8 +161,31 @@ impl Pipeline {
     {
         let context = self.held.remove(place);
         self.latches.take_out(place as u8);
+        let next = next_without(place, self.next);
+        self.next = next;
         context
     }
+}
+
+// Whose turn it is after select has taken this hart, or none.
+fn turn_after(selected: Option<Flight>, next: u8) -> u8
+    requires place { IfSome selected (λ f. f.place < 32) }
+    ensures { MatchOption selected (result ≡ next) (λ f. result ≡ f.place + 1) }
+{
+    match selected {
+        Some(flight) => flight.place + 1,
+        None => next,
+    }
+}
+
+// Whose turn it is once the hart at this place is taken out, and those after it have moved up.
+fn next_without(place: usize, next: u8) -> u8
+    ensures { result ≡ next_without place next }
+{
+    if place < usize::from(next) {
+        return next - 1;
+    }
+    next
 }
 
 // The place of the first hart that wants another engine.

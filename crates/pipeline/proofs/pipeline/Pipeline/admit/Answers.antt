@@ -24,6 +24,7 @@ invariant_of-self c =
     let few : length held < 32 = omega (arith, ap Length c.self.view_is, c.requires.room) in
     let more : length c.push_reserved.new.self.items ≡ length held + 1 = ap length all ∙ length-append held (ctx ∷ []) in
     record {
+      turn = omega (arith, c.self.invariant.turn, more);
       few = omega (arith, few, more);
       here = subst AreHere (sym all) (All-append (λ k. k.engine ≡ engine.Pipe) held (ctx ∷ []) c.self.invariant.here (one_here ctx c.requires.here));
       flights = subst Flying (sym all) (flying_admitted held ctx c.self.inside.latches c.lay.new.self c.lay.result c.self.invariant.flights (subst Laid count c.lay.ensures.laid));

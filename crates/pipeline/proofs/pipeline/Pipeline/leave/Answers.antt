@@ -1,7 +1,9 @@
 -- The hart that was found stands between those before it and those after it.
-use Rattle.std.proofs.Common.{◌≡◌, ◌<◌, ℕ, suc, List, length, take, drop, sym, ap, subst, ◌∙◌}
+use Rattle.std.proofs.Common.{◌≡◌, ◌<◌, ℕ, suc, List, ◌≤◌, min, length, take, drop, sym, ap, subst, ◌∙◌, arith}
+use Rattle.std.proofs.Math.Nat.{min-eq_left}
+use Rattle.std.proofs.lemmas.List.{length-take}
 use Rattle.context.specs.Contexts.{Context}
-use Rattle.pipeline.specs.Pipes.{Pipe, NoneElsewhere}
+use Rattle.pipeline.specs.Pipes.{Pipe, NoneElsewhere, next_without}
 use Rattle.pipeline.proofs.Holding.{parted}
 use Rattle.pipeline.proofs.pipeline.Pipeline.leave.Goals as goal
 
@@ -13,11 +15,15 @@ returns-in-Some-clause-out c =
     let Held : Pipe → List Context = λ p. p.held in
     let Within : List Context → Type 0 = λ l. place < length l in
     let inside : place < length held = subst Within (c.deref.ensures.value ∙ ap Held c.self.view_is) c.in-Some.ensures.found.1 in
+    let first : min place (length held) ≡ place = min-eq_left (omega (arith, inside)) in
+    let before : length (take place held) ≡ place = length-take place held ∙ first in
+    let Next : ℕ → ℕ = λ n. next_without n c.args.self.now.next in
     record {
       before = take place held;
       after = drop (suc place) held;
       was = parted held place c.take_out.result inside out.was;
       left = out.left;
+      next = out.next ∙ ap Next (sym before);
       made = out.made;
     }
 
