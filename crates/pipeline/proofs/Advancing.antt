@@ -1,6 +1,6 @@
 -- The latches move on, and what is due in end, in memory and in fetch is made.
-use Rattle.std.proofs.Common.{◌≡◌, ◌≢◌, ◌⊎◌, ℕ, zero, suc, ◌+◌, ◌<◌, ◌≤◌, List, [], ◌∷◌, map, take, length, slice_index_or, slice_set, Option, None, Some, refl, sym, ap, subst, ◌∙◌, arith, inl, inr}
-use Rattle.std.proofs.lemmas.Bool.{cases_eq, cases_lt}
+use Rattle.std.proofs.Common.{◌≡◌, ◌≢◌, ◌⊎◌, ℕ, zero, suc, ◌+◌, List, ◌∷◌, take, length, slice_index_or, slice_set, Option, None, Some, refl, sym, ap, subst, ◌∙◌, arith, inl, inr}
+use Rattle.std.proofs.lemmas.Bool.{cases_lt}
 use Rattle.std.proofs.lemmas.List.{take-map, get_or-take, get_or_past, length-take-le, get_or-set_same, get_or-set_other, length-set, set-get_or}
 use Rattle.flex_base.specs.declared.class.Class.{Class}
 use Rattle.flex_base.specs.declared.class.Class.TheVariants as class
@@ -13,7 +13,7 @@ use Rattle.context.specs.Obeying.{IsFor}
 use Rattle.context.specs.Contexts.{Context, plan_of}
 use Rattle.pipeline.specs.declared.flight.Flight.{Flight}
 use Rattle.pipeline.specs.declared.flight.Made.{Made}
-use Rattle.pipeline.specs.Pipes.{flight_in, flights_in, moved, latch_for, IsAt, IsDue, HasHart, IsInFlight, AreInFlight, AreMoving, IsNotDue, HasWorked, IsLeft, HasAdvanced}
+use Rattle.pipeline.specs.Pipes.{flight_in, flights_in, moved, latch_for, IsAt, IsDue, AreInFlight, AreMoving, IsNotDue, HasWorked, IsLeft, HasAdvanced}
 use Rattle.pipeline.proofs.Flying.{end_is_none}
 
 -- each byte goes to the next latch

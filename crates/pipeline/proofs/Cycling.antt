@@ -1,5 +1,5 @@
 -- What a cycle makes.
-use Rattle.std.proofs.Common.{◌≡◌, ◌≢◌, ℕ, zero, suc, ◌+◌, ◌<◌, ◌≤◌, List, [], ◌∷◌, ◌++◌, map, take, drop, reverse, length, slice_index_or, slice_set, Option, None, Some, inl, inr, refl, sym, ap, subst, ◌∙◌, arith, length-set}
+use Rattle.std.proofs.Common.{◌≡◌, ℕ, zero, suc, ◌+◌, List, [], ◌∷◌, ◌++◌, map, take, drop, reverse, length, slice_index_or, Option, None, Some, inl, inr, refl, sym, ap, subst, ◌∙◌, arith, length-set}
 use Rattle.std.proofs.Math.Seq.{take-append_seam}
 use Rattle.flex_base.specs.declared.class.Class.{Class}
 use Rattle.access_record.specs.Buses.{Run}

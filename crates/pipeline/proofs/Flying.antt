@@ -1,5 +1,5 @@
 -- What is in a latch, by the byte that says it, and instructions that move on.
-use Rattle.std.proofs.Common.{◌≡◌, ◌≢◌, ℕ, ◌+◌, ◌-◌, ◌<◌, ◌≤◌, ◌/◌, ◌%◌, nat_eq, Bool, true, false, if◌then◌else◌, List, map, length, slice_index_or, slice_set, Option, None, Some, refl, sym, ap, subst, ◌∙◌, arith, inl, inr}
+use Rattle.std.proofs.Common.{◌≡◌, ◌≢◌, ℕ, ◌<◌, ◌/◌, ◌%◌, nat_eq, Bool, true, false, if◌then◌else◌, List, length, slice_index_or, slice_set, Option, None, Some, refl, sym, ap, subst, ◌∙◌, arith, inl, inr}
 use Rattle.std.proofs.lemmas.Bool.{cases_eq}
 use Rattle.std.proofs.lemmas.List.{map-set, get_or-map, get_or_default, length-map, get_or-set_same, get_or-set_other, length-set, set-get_or}
 use Rattle.flex_base.specs.declared.class.Class.{Class}
@@ -10,7 +10,7 @@ use Rattle.context.specs.declared.wants.Wants.TheVariants as wants
 use Rattle.context.specs.Obeying.{IsFor}
 use Rattle.context.specs.Contexts.{Context, plan_of, IsWanting, WantsHere}
 use Rattle.pipeline.specs.declared.flight.Flight.{Flight}
-use Rattle.pipeline.specs.Pipes.{flight_in, flights_in, latch_for, IsAt, IsDue, HasHart, IsInFlight, AreMoving, IsLeft, IsGoingOn, IsNotDue}
+use Rattle.pipeline.specs.Pipes.{flight_in, flights_in, latch_for, IsAt, IsDue, AreMoving, IsLeft, IsGoingOn, IsNotDue}
 
 -- a byte is written
 pub read_set : (slots : List ℕ) (n latch slot : ℕ) → n ≡ latch → flights_in (slice_set slots n slot) ≡ slice_set (flights_in slots) latch (flight_in slot)

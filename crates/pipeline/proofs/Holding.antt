@@ -1,13 +1,13 @@
 -- Harts are taken in and out, and what is in the latches stays in flight.
-use Rattle.std.proofs.Common.{◌≡◌, ◌≢◌, ◌⊎◌, ℕ, zero, suc, ◌+◌, ◌-◌, ◌<◌, ◌≤◌, nat_eq, nat_lt, Bool, true, false, if◌then◌else◌, List, [], ◌∷◌, ◌++◌, map, length, take, drop, slice_index_or, slice_set, Option, None, Some, IfSome, refl, sym, ap, subst, ◌∙◌, arith, inl, inr}
+use Rattle.std.proofs.Common.{◌≡◌, ◌≢◌, ◌⊎◌, ℕ, zero, suc, ◌+◌, ◌-◌, ◌<◌, ◌≤◌, nat_eq, nat_lt, Bool, true, false, if◌then◌else◌, List, [], ◌∷◌, ◌++◌, length, take, drop, slice_index_or, slice_set, Option, None, Some, IfSome, refl, sym, ap, subst, ◌∙◌, arith, inl, inr}
 use Rattle.std.specs.List.{All, SameBelow, ShiftedDown}
 use Rattle.std.proofs.lemmas.Bool.{cases_eq, cases_lt, or_parts, eqb-false, ltb-true, ltb-false}
-use Rattle.std.proofs.lemmas.List.{get_or-set_same, get_or-set_other, length-set, length-map, length-append, get_or_append_left, get_or_default, drop_all, append-nil}
+use Rattle.std.proofs.lemmas.List.{get_or-set_same, get_or-set_other, length-set, length-map, length-append, get_or_append_left, drop_all, append-nil}
 use Rattle.std.proofs.Math.Seq.{get_or-append_seam}
 use Rattle.std.proofs.Math.ListN.{get_or-map}
 use Rattle.context.specs.Contexts.{Context}
 use Rattle.pipeline.specs.declared.flight.Flight.{Flight}
-use Rattle.pipeline.specs.Pipes.{IsAt, IsDue, HasHart, IsInFlight, AreInFlight, HasLaid, Lays, MayStart, is_of, is_among, without_place, without_in}
+use Rattle.pipeline.specs.Pipes.{IsAt, IsDue, IsInFlight, AreInFlight, HasLaid, MayStart, is_of, is_among, without_place, without_in}
 
 -- what Some is of
 pub same_some : (f g : Flight) → Some f ≡ Some g → f ≡ g

@@ -1,5 +1,5 @@
 -- Where an instruction is laid into the latches.
-use Rattle.std.proofs.Common.{◌≡◌, ◌≢◌, ℕ, zero, suc, ◌-◌, Bool, true, false, List, slice_index_or, Option, None, refl, sym, ap, ◌∙◌, inl, inr}
+use Rattle.std.proofs.Common.{◌≡◌, ℕ, zero, suc, ◌-◌, Bool, true, false, List, slice_index_or, Option, None, refl, sym, ap, ◌∙◌, inl, inr}
 use Rattle.context.specs.Contexts.{Context, IsWantedIn}
 use Rattle.context.specs.Runs.{MakesNone}
 use Rattle.context.proofs.Keeping.{wants_one}

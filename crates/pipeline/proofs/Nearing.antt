@@ -1,10 +1,9 @@
 -- An event comes nearer where none was made.
-use Rattle.std.proofs.Common.{◌≡◌, ◌≢◌, ◌⊎◌, ℕ, zero, suc, ◌+◌, ◌-◌, ◌<◌, ◌≤◌, Bool, true, false, nat_lt, nat_eq, min, if◌then◌else◌, ◌||◌, List, [], ◌∷◌, ◌++◌, take, drop, length, slice_index_or, slice_set, Option, None, Some, IfSome, IfNone, MatchOption, inl, inr, refl, sym, ap, subst, ◌∙◌, arith}
+use Rattle.std.proofs.Common.{◌≡◌, ◌⊎◌, ℕ, suc, ◌+◌, ◌-◌, ◌<◌, ◌≤◌, Bool, false, min, if◌then◌else◌, List, [], ◌∷◌, ◌++◌, take, drop, length, slice_index_or, slice_set, Option, None, Some, IfSome, IfNone, MatchOption, inl, inr, refl, sym, ap, subst, ◌∙◌, arith}
 use Rattle.std.proofs.Math.Nat.{min-le_left, min-le_right, min-eq_left, min-eq_right}
 use Rattle.std.proofs.lemmas.Bool.{cases_lt, lt-ltb}
 use Rattle.flex_base.specs.declared.engine.Engine.{Engine}
 use Rattle.flex_base.specs.declared.engine.Engine.TheVariants as engine
-use Rattle.context.specs.declared.wants.Wants.{Wants}
 use Rattle.context.specs.Obeying.{IsFor}
 use Rattle.context.specs.Contexts.{Context, plan_of, IsWantedIn}
 use Rattle.context.specs.Runs.{MakesNone}
@@ -12,7 +11,7 @@ use Rattle.access_record.specs.Buses.{Run}
 use Rattle.access_record.specs.Histories.{History}
 use Rattle.pipeline.specs.declared.flight.Flight.{Flight}
 use Rattle.pipeline.specs.declared.flight.Made.{Made}
-use Rattle.pipeline.specs.Pipes.{AreInFlight, AreHere, IsPipe, HasAdvanced, IsAt, IsDue, latch_for, MayStart, NoneMayStart, moved, is_among, is_of, wait_at, least_wait}
+use Rattle.pipeline.specs.Pipes.{AreInFlight, AreHere, IsPipe, HasAdvanced, IsAt, latch_for, MayStart, NoneMayStart, moved, is_among, wait_at, least_wait}
 use Rattle.pipeline.proofs.Working.{makes_one}
 use Rattle.pipeline.proofs.Cycling.{six_of, length_advanced, held_is, none_is}
 use Rattle.pipeline.proofs.Holding.{flying_selected}
@@ -231,7 +230,7 @@ module _ (run : Run) (before after : Option History) (made : Made) (latches left
       subst Is (sym held) (record {
         few = omega (arith, pipe.few, length_advanced run before after made latches left lent new advanced, ap Length value);
         turn = turn_within next now left new found (omega (arith, pipe.turn, length_advanced run before after made latches left lent new advanced, ap Length value))
-        (some_may new left selected found (subst Found (read_is ∙ held) some)) goes;
+            (some_may new left selected found (subst Found (read_is ∙ held) some)) goes;
         here = here (subst Here (sym value) pipe.here);
         flights = select_keeps new found selected flights (subst Found (read_is ∙ held) some) (subst Nobody (read_is ∙ held) none);
         room = pipe.room;

@@ -1,6 +1,6 @@
 -- Whose turn it is in select.
-use Rattle.std.proofs.Common.{◌≡◌, ◌≢◌, ◌⊎◌, ℕ, suc, ◌+◌, ◌-◌, ◌<◌, ◌≤◌, Bool, true, false, nat_lt, nat_eq, min, if◌then◌else◌, ◌||◌, List, [], ◌∷◌, ◌++◌, take, drop, length, slice_index_or, slice_set, Option, None, Some, IfSome, IfNone, MatchOption, inl, inr, refl, sym, ap, subst, ◌∙◌, arith}
-use Rattle.std.proofs.Math.Nat.{min-le_left, min-le_right, min-eq_left, min-eq_right}
+use Rattle.std.proofs.Common.{◌≡◌, ◌≢◌, ℕ, suc, ◌+◌, ◌-◌, ◌<◌, ◌≤◌, Bool, false, nat_eq, min, if◌then◌else◌, List, [], ◌∷◌, ◌++◌, take, drop, length, slice_index_or, slice_set, Option, None, Some, IfSome, IfNone, MatchOption, inl, inr, sym, ap, subst, ◌∙◌, arith}
+use Rattle.std.proofs.Math.Nat.{min-le_left, min-eq_left, min-eq_right}
 use Rattle.std.proofs.lemmas.Bool.{cases_lt, lt-ltb, le-ltb, eqb-false, or_parts}
 use Rattle.flex_base.specs.declared.engine.Engine.{Engine}
 use Rattle.flex_base.specs.declared.engine.Engine.TheVariants as engine
@@ -82,20 +82,20 @@ fewer_before : (count next place other : ℕ) → next ≤ count → place < cou
     → places_before count (suc place) other < places_before count next other
 fewer_before count next place other within inside there apart on round = elim (cases_lt place next) [
   | inl less ↦ elim (cases_lt other next) [
-      | inl behind ↦
-          let after = (round less).1 in
-          let before : suc place ≤ other = omega (arith, after, apart) in
-          omega (arith, places_on count (suc place) other before, places_round count next other behind, before, within)
-      | inr ahead ↦ absurd ((round less).0 ahead)
-    ]
+    | inl behind ↦
+        let after = (round less).1 in
+        let before : suc place ≤ other = omega (arith, after, apart) in
+        omega (arith, places_on count (suc place) other before, places_round count next other behind, before, within)
+    | inr ahead ↦ absurd ((round less).0 ahead)
+  ]
   | inr more ↦ elim (cases_lt other next) [
-      | inl behind ↦
-          omega (arith, places_round count (suc place) other (omega (arith, behind, more)), places_round count next other behind, more, inside)
-      | inr ahead ↦
-          let after = on more ahead in
-          let before : suc place ≤ other = omega (arith, after, apart) in
-          omega (arith, places_on count (suc place) other before, places_on count next other ahead, before, more)
-    ]
+    | inl behind ↦
+        omega (arith, places_round count (suc place) other (omega (arith, behind, more)), places_round count next other behind, more, inside)
+    | inr ahead ↦
+        let after = on more ahead in
+        let before : suc place ≤ other = omega (arith, after, apart) in
+        omega (arith, places_on count (suc place) other before, places_on count next other ahead, before, more)
+  ]
 ]
 
 -- each hart that is held is in the pipe

@@ -1,5 +1,5 @@
 -- A hart in flight makes its event.
-use Rattle.std.proofs.Common.{◌≡◌, ◌≢◌, ℕ, ◌<◌, List, length, slice_index_or, sym, ap, subst, ◌∙◌}
+use Rattle.std.proofs.Common.{◌≡◌, ◌≢◌, ℕ, ◌<◌, List, length, slice_index_or, sym, subst, ◌∙◌}
 use Rattle.std.proofs.lemmas.List.{get_or_default}
 use Rattle.flex_base.specs.declared.class.Class.{Class}
 use Rattle.flex_base.specs.declared.engine.Engine.{Engine}

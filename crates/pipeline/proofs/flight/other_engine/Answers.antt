@@ -1,5 +1,5 @@
 -- What is wanted, is wanted of the engine that the plan gives it to.
-use Rattle.std.proofs.Common.{rules, ◌≡◌, ◌≢◌, ◌<◌, arith}
+use Rattle.std.proofs.Common.{rules, ◌≡◌, ◌≢◌, ◌<◌}
 use Rattle.pipeline.proofs.Working.{stays_here, goes_there}
 use Rattle.pipeline.proofs.flight.other_engine.Goals as goal
 

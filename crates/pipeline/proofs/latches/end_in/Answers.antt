@@ -1,5 +1,5 @@
 -- What is due in end makes its end, and leaves.
-use Rattle.std.proofs.Common.{rules, ◌≡◌, ◌<◌, ℕ, List, length, slice_index_or, slice_set, Option, None, Some, refl, sym, ap, subst, ◌∙◌, arith}
+use Rattle.std.proofs.Common.{◌≡◌, ◌<◌, ℕ, List, length, slice_set, Option, None, refl, sym, ap, subst, ◌∙◌, arith}
 use Rattle.std.proofs.lemmas.List.Elements.{All-set}
 use Rattle.flex_base.specs.declared.engine.Engine.TheVariants as engine
 use Rattle.context.specs.declared.wants.Wants.TheVariants as wants

@@ -1,5 +1,5 @@
 -- Those from the place on and those before it are all.
-use Rattle.std.proofs.Common.{◌<◌, ◌≤◌, ℕ, length}
+use Rattle.std.proofs.Common.{◌<◌, ◌≤◌, length}
 use Rattle.pipeline.specs.Pipes.{NoneMayStart, NoneBefore, flights_in}
 use Rattle.pipeline.proofs.Selecting.{none_joined, none_follows, some_follows}
 use Rattle.pipeline.proofs.Turns.{before_on, before_round}

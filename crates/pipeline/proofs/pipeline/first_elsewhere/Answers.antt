@@ -1,8 +1,7 @@
 -- Hart after hart, none before wants another engine.
-use Rattle.std.proofs.Common.{◌≡◌, ◌<◌, ℕ, length, slice_index_or, sym, subst, ◌∙◌, arith, inl, inr}
+use Rattle.std.proofs.Common.{◌≡◌, ℕ, slice_index_or, sym, subst, ◌∙◌, arith, inl, inr}
 use Rattle.std.proofs.lemmas.Bool.{cases_eq}
 use Rattle.std.proofs.lemmas.List.{get_or_default}
-use Rattle.flex_base.specs.declared.engine.Engine.{Engine}
 use Rattle.context.specs.Contexts.{Context, IsElsewhere}
 use Rattle.pipeline.proofs.pipeline.first_elsewhere.Goals as goal
 

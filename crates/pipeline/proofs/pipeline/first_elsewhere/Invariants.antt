@@ -1,5 +1,5 @@
 -- None of the harts before wants another engine.
-use Rattle.std.proofs.Common.{◌≡◌, ◌<◌, ℕ, slice_index_or}
+use Rattle.std.proofs.Common.{◌<◌, ℕ, slice_index_or}
 use Rattle.flex_base.specs.declared.engine.Engine.{Engine}
 use Rattle.context.specs.Contexts.{Context, IsElsewhere}
 use Rattle.pipeline.proofs.pipeline.first_elsewhere.Given as goal

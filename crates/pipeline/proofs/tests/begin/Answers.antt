@@ -1,5 +1,5 @@
 -- One hart more is kept.
-use Rattle.std.proofs.Common.{sym, subst, List, ◌∷◌, [], ◌++◌, ◌∙◌}
+use Rattle.std.proofs.Common.{sym, subst, List, ◌∷◌, [], ◌++◌}
 use Rattle.flex_base.specs.declared.hart.HartId.{HartId}
 use Rattle.access_record.specs.Buses.{Run}
 use Rattle.context.specs.Contexts.{Context}

@@ -1,5 +1,5 @@
 -- Each hart that is enrolled is held or has its pass among those that are kept, so at last all passes are there.
-use Rattle.std.proofs.Common.{rules, arith, ◌≡◌, ℕ, ◌+◌, ◌≤◌, List, [], ◌∷◌, length, ap, sym, ◌∙◌, subst}
+use Rattle.std.proofs.Common.{rules, arith, ◌≡◌, ℕ, ◌≤◌, List, [], ◌∷◌, length, ap, sym, ◌∙◌, subst}
 use Rattle.std.specs.Prelude.{vec_len, vec_capacity}
 use Rattle.flex_base.specs.declared.engine.Engine.TheVariants as engine
 use Rattle.access_record.specs.Passes.{EachHasPass, Enrolment}

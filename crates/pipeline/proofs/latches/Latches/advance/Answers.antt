@@ -1,7 +1,6 @@
 -- The latches move on, and the events that are due are made, one latch after another.
-use Rattle.std.proofs.Common.{rules, ◌≡◌, ◌+◌, ℕ, List, Option, None, Some, refl, sym, ap, subst, ◌∙◌, slice_index_or, slice_set}
+use Rattle.std.proofs.Common.{rules, ◌≡◌, ◌+◌, List, Option, None, refl, sym, ap, subst, ◌∙◌, slice_index_or, slice_set}
 use Rattle.access_record.specs.Buses.{Run}
-use Rattle.context.specs.Contexts.{Context}
 use Rattle.context.specs.declared.wants.Wants.TheVariants as Wants
 use Rattle.pipeline.specs.declared.flight.Flight.{Flight}
 use Rattle.pipeline.specs.declared.flight.Made.{Made}

@@ -1,5 +1,5 @@
 -- The latch before is free or not.
-use Rattle.std.proofs.Common.{rules, ◌≡◌, ◌≢◌, ◌-◌, ◌<◌, ℕ, List, Option, None, Some, refl, sym, ap, subst, ◌∙◌, arith, inl, inr, length, slice_index_or, slice_set}
+use Rattle.std.proofs.Common.{◌≡◌, ◌≢◌, ◌-◌, List, Option, None, refl, sym, ap, subst, ◌∙◌, arith, inr, slice_index_or, slice_set}
 use Rattle.pipeline.specs.declared.flight.Flight.{Flight}
 use Rattle.pipeline.specs.Pipes.{flight_in, flights_in}
 use Rattle.pipeline.proofs.Flying.{read_set, read_at, reads_none, reads_some}

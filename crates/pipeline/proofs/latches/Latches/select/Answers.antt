@@ -1,5 +1,5 @@
 -- What was found is laid into select.
-use Rattle.std.proofs.Common.{rules, ◌≡◌, ℕ, List, Option, None, Some, IfNone, refl, sym, ap, subst, ◌∙◌, length, slice_set}
+use Rattle.std.proofs.Common.{List, Option, refl, ap, subst, ◌∙◌, length, slice_set}
 use Rattle.pipeline.specs.declared.flight.Flight.{Flight}
 use Rattle.pipeline.specs.Pipes.{flight_in, flights_in, MayStart, NoneMayStart}
 use Rattle.pipeline.proofs.Flying.{read_set}

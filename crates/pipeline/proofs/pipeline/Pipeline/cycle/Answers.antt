@@ -1,5 +1,5 @@
 -- The latches move on over all harts, and select takes one.
-use Rattle.std.proofs.Common.{◌≡◌, ℕ, ◌+◌, List, ◌++◌, take, drop, length, ap, sym, subst}
+use Rattle.std.proofs.Common.{ℕ, ◌+◌, List, ◌++◌, take, drop, length, sym, subst}
 use Rattle.context.specs.Contexts.{Context}
 use Rattle.pipeline.specs.Pipes.{Pipe, pipe_of, Passes, moved_places, IsNearer, IsTurn, AreNearerToStart, AreOn}
 use Rattle.pipeline.proofs.Cycling.{held_is, passes_is, total_is}

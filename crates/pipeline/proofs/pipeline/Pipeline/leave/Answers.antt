@@ -1,5 +1,5 @@
 -- The hart that was found stands between those before it and those after it.
-use Rattle.std.proofs.Common.{◌≡◌, ◌<◌, ℕ, suc, List, ◌≤◌, min, length, take, drop, sym, ap, subst, ◌∙◌, arith}
+use Rattle.std.proofs.Common.{◌≡◌, ◌<◌, ℕ, suc, List, min, length, take, drop, sym, ap, subst, ◌∙◌, arith}
 use Rattle.std.proofs.Math.Nat.{min-eq_left}
 use Rattle.std.proofs.lemmas.List.{length-take}
 use Rattle.context.specs.Contexts.{Context}

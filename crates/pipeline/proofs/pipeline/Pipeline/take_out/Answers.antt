@@ -4,7 +4,7 @@ use Rattle.std.proofs.lemmas.List.Edits.{length-remove}
 use Rattle.flex_base.specs.declared.engine.Engine.TheVariants as engine
 use Rattle.context.specs.Contexts.{Context}
 use Rattle.pipeline.specs.declared.flight.Flight.{Flight}
-use Rattle.pipeline.specs.Pipes.{Pipe, AreInFlight, without_in}
+use Rattle.pipeline.specs.Pipes.{Pipe, AreInFlight}
 use Rattle.pipeline.proofs.Holding.{flying_taken, all_taken}
 use Rattle.pipeline.proofs.Turns.{turn_without}
 use Rattle.pipeline.proofs.pipeline.Pipeline.take_out.Goals as goal
