@@ -1,16 +1,14 @@
 -- A context that moves between the coordinator, its hand and a worker: the crew has each hart once before and after.
-use Rattle.std.proofs.Common.{◌≡◌, ℕ, ◌+◌, ◌<◌, ◌≤◌, ◌==◌, if◌then◌else◌, true, eq-eqb, List, [], ◌∷◌, ◌++◌, length, set, refl, sym, ap, ◌∙◌, subst, arith, Option, None, Some, All, slice_index_or, sum_by, option_to_list, IfSome}
+use Rattle.std.proofs.Common.{◌≡◌, ℕ, ◌+◌, ◌<◌, ◌==◌, if◌then◌else◌, eq-eqb, List, [], ◌∷◌, ◌++◌, length, set, refl, sym, ap, ◌∙◌, subst, arith, Option, None, Some, All, slice_index_or, sum_by, option_to_list, IfSome}
 use Rattle.std.proofs.lemmas.List.{length-set, length-append, length_push, get_or_default, get_or-set_same, get_or-set_other}
 use Rattle.std.proofs.lemmas.List.Elements.{All-push, All-pop, All-weaker}
 use Rattle.std.proofs.lemmas.List.Sums.{sum_by-set, sum_by_push, sum_by-append, get_or-le-sum_by}
 use Rattle.flex_base.specs.declared.hart.HartId.{HartId}
-use Rattle.flex_base.specs.declared.settings.Settings.{Settings}
 use Rattle.flex_base.specs.declared.engine.Engine.{Engine}
 use Rattle.access_record.specs.Buses.{Run}
-use Rattle.transplant_plan.specs.declared.plan.Plan.{Plan}
 use Rattle.context.specs.Contexts.{Context, IsOn, IsSame}
-use Rattle.crew.specs.Crews.{Berth, Crew, crew_of, is_hart, times_at, times_in, times_resting, times_among, filled, count_of, IsOfCrew, IsResting, IsManned, count_by, engine_of_worker, IsCrewBut, IsCrew, TakesBack, MayWork, HasWorked, HaveWorked, WorkerHasWorked, AllHaveWorked}
-use Rattle.crew.proofs.Counting.{Each, Each-set, sums_same}
+use Rattle.crew.specs.Crews.{Berth, Crew, crew_of, is_hart, times_at, times_in, filled, IsOfCrew, IsResting, IsManned, engine_of_worker, IsCrewBut, IsCrew, TakesBack, MayWork, HaveWorked, WorkerHasWorked, AllHaveWorked}
+use Rattle.crew.proofs.Counting.{Each-set, sums_same}
 
 -- the crew with these places, and with these workers
 abbrev pub with_resting : Crew → List (Option Context) → Crew

@@ -1,12 +1,11 @@
 -- Harts that go through the latches of a pipe: one is laid, and the latches move on.
-use Rattle.std.proofs.Common.{◌≡◌, ◌≢◌, ℕ, zero, suc, ◌+◌, ◌-◌, ◌<◌, ◌≤◌, List, [], ◌∷◌, length, take, Option, None, Some, ◌⊎◌, refl, sym, ap, ◌∙◌, subst, arith, inl, inr, slice_index_or, slice_set}
+use Rattle.std.proofs.Common.{◌≡◌, ◌≢◌, ℕ, zero, suc, ◌+◌, ◌-◌, ◌<◌, ◌≤◌, List, length, take, Option, None, Some, ◌⊎◌, refl, sym, ap, ◌∙◌, subst, arith, inl, inr, slice_index_or, slice_set}
 use Rattle.std.proofs.lemmas.Bool.{cases_eq, cases_lt}
 use Rattle.std.proofs.lemmas.List.{length-set, length-take-le, get_or-set_same, get_or-set_other, get_or_default, get_or-take, get_or_past}
 use Rattle.flex_base.specs.Setup.{Setup}
 use Rattle.flex_base.specs.Unsplit.{Instruction}
 use Rattle.flex_base.specs.Following.{wanted, MayDo}
 use Rattle.flex_base.specs.declared.class.Class.{Class}
-use Rattle.flex_base.specs.declared.engine.Engine.TheVariants as engine
 use Rattle.flex_base.specs.declared.event.What.{What}
 use Rattle.flex_base.specs.declared.event.What.TheVariants as what
 use Rattle.flex_base.specs.declared.settings.Settings.{Settings}
@@ -15,13 +14,13 @@ use Rattle.access_record.specs.Histories.{History}
 use Rattle.context.specs.declared.wants.Wants.{Wants}
 use Rattle.context.specs.declared.wants.Wants.TheVariants as wants
 use Rattle.context.specs.Obeying.{wants_of}
-use Rattle.context.specs.Contexts.{Context, IsRunOf, IsOn, IsSame, Goes, instruction_at, ends_by}
+use Rattle.context.specs.Contexts.{Context, IsRunOf, IsSame, Goes, instruction_at, ends_by}
 use Rattle.context.proofs.Running.{same-trans}
 use Rattle.pipeline.specs.declared.flight.Flight.{Flight}
 use Rattle.pipeline.specs.declared.flight.Made.{Made}
 use Rattle.pipeline.specs.Pipes as pipes
 use Rattle.pipeline.specs.Pipes.{no_flights, moved, IsAt, IsDue, IsInFlight, AreInFlight, AreOn, AreHere, IsLeft, Works, HasAdvanced, Lays}
-use Rattle.crew.specs.Crews.{HasWorked, HaveWorked}
+use Rattle.crew.specs.Crews.{HaveWorked}
 use Rattle.crew.specs.Passing.{HasMade, IsPassing}
 use Rattle.crew.proofs.Working.{few_ends}
 

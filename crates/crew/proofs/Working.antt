@@ -1,14 +1,14 @@
 -- What a run of one hart comes to, and of all harts of a worker.
-use Rattle.std.proofs.Common.{◌≡◌, ℕ, zero, suc, ◌+◌, ◌-◌, ◌<◌, ◌≤◌, List, [], ◌++◌, length, All, refl, sym, ap, ◌∙◌, subst, arith, inl, inr, slice_index_or, Option}
+use Rattle.std.proofs.Common.{◌≡◌, ℕ, zero, suc, ◌+◌, ◌-◌, ◌≤◌, List, [], ◌++◌, length, All, refl, sym, ap, ◌∙◌, subst, arith, inl, inr, slice_index_or, Option}
 use Rattle.std.proofs.lemmas.Bool.{cases_lt}
 use Rattle.std.proofs.lemmas.List.{length-append, get_or_append_left, get_or-append_right}
 use Rattle.flex_base.specs.declared.event.What.{What}
 use Rattle.flex_base.specs.declared.event.What.TheVariants as what
 use Rattle.access_record.specs.Buses.{Run}
 use Rattle.access_record.specs.Histories.{History}
-use Rattle.context.specs.Contexts.{Context, IsOn, IsSame, Steps, Stays, ends_by}
+use Rattle.context.specs.Contexts.{Context, IsOn, IsSame, ends_by}
 use Rattle.context.specs.Runs.{Runs, HasRun}
-use Rattle.crew.specs.Crews.{Berth, MayWork, HasWorked, HaveWorked, WorkerHasWorked, AllHaveWorked, AreIdleFrom}
+use Rattle.crew.specs.Crews.{Berth, MayWork, HasWorked, WorkerHasWorked, AllHaveWorked, AreIdleFrom}
 
 pub few_ends : (happened : What) → ends_by happened ≤ 1
 few_ends (what.Acc access reply) = omega arith

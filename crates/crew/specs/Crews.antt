@@ -1,7 +1,6 @@
 -- The harts of a crew: those at rest with its coordinator, and those that its workers hold.
 use Rattle.std.specs.Prelude.{◌≡◌, ◌≢◌, ℕ, ◌+◌, ◌<◌, ◌≤◌, ◌==◌, nat_lt, if◌then◌else◌, List, [], All, length, slice_index_or, Option, None, Some, IfSome}
 use Rattle.std.specs.List.{sum_by}
-use Rattle.flex_base.specs.Setup.{Setup}
 use Rattle.flex_base.specs.declared.engine.Engine.{Engine}
 use Rattle.flex_base.specs.declared.engine.Engine.TheVariants as engine
 use Rattle.access_record.specs.Buses.{Run}

@@ -1,6 +1,4 @@
 -- The first workers may run, and those after them hold no hart.
-use Rattle.std.proofs.Common.{◌≡◌, ◌++◌, List, sym, subst}
-use Rattle.crew.specs.Crews.{Berth, AllHaveWorked}
 use Rattle.crew.proofs.Working.{first_may, rest_idle}
 use Rattle.crew.proofs.coordinator.side_by_side.Goals as goal
 

@@ -1,5 +1,5 @@
 -- The harts before this place have had their turn.
-use Rattle.std.proofs.Common.{◌≡◌, ℕ, List, length}
+use Rattle.std.proofs.Common.{◌≡◌, List, length}
 use Rattle.context.specs.Contexts.{Context}
 use Rattle.crew.specs.Passing.{IsPassing}
 use Rattle.crew.proofs.pipe.lay_all.Given as goal

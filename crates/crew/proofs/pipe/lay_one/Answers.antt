@@ -1,7 +1,6 @@
 -- The hart has been laid and the latches have moved on, or it is passed over, or it waits a cycle more.
-use Rattle.std.proofs.Common.{rules, ◌≡◌, ◌+◌, ◌<◌, ◌≤◌, true, false, List, length, Option, sym, subst, ◌∙◌}
+use Rattle.std.proofs.Common.{rules, ◌+◌, List, Option, sym, subst, ◌∙◌}
 use Rattle.access_record.specs.Buses.{Run}
-use Rattle.context.specs.Contexts.{Context}
 use Rattle.pipeline.specs.declared.flight.Flight.{Flight}
 use Rattle.crew.specs.Passing.{IsPassing}
 use Rattle.crew.proofs.Passing.{passed_over}

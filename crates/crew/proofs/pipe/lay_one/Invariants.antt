@@ -1,5 +1,5 @@
 -- The harts are still passing, and this one has not had its turn.
-use Rattle.std.proofs.Common.{◌≡◌, ℕ, List, length}
+use Rattle.std.proofs.Common.{◌≡◌, List, length}
 use Rattle.context.specs.Contexts.{Context}
 use Rattle.crew.specs.Passing.{IsPassing}
 use Rattle.crew.proofs.pipe.lay_one.Given as goal

@@ -1,5 +1,5 @@
 -- The run is over where the crew is at rest.
-use Rattle.std.proofs.Common.{◌≡◌, ap, sym, subst, ◌∙◌}
+use Rattle.std.proofs.Common.{◌≡◌, ap, subst, ◌∙◌}
 use Rattle.transplant_plan.specs.declared.plan.Plan.{Plan}
 use Rattle.mem_banks.specs.End.{Memory}
 use Rattle.crew.specs.Crews.{Crew}
