@@ -1,19 +1,17 @@
 -- The latches move on, and what is due in end, in memory and in fetch is made.
-use Rattle.std.proofs.Common.{◌≡◌, ◌≢◌, ◌⊎◌, ℕ, zero, suc, ◌+◌, List, ◌∷◌, take, length, slice_index_or, slice_set, Option, None, Some, refl, sym, ap, subst, ◌∙◌, arith, inl, inr}
+use Rattle.std.proofs.Common.{◌≡◌, ◌≢◌, ℕ, zero, suc, ◌+◌, List, ◌∷◌, take, length, slice_index_or, slice_set, Option, None, Some, refl, sym, ap, subst, ◌∙◌, arith, inl, inr}
 use Rattle.std.proofs.lemmas.Bool.{cases_lt}
 use Rattle.std.proofs.lemmas.List.{take-map, get_or-take, get_or_past, length-take-le, get_or-set_same, get_or-set_other, length-set, set-get_or}
 use Rattle.flex_base.specs.declared.class.Class.{Class}
-use Rattle.flex_base.specs.declared.class.Class.TheVariants as class
-use Rattle.flex_base.specs.declared.engine.Engine.{Engine}
 use Rattle.access_record.specs.Buses.{Run}
 use Rattle.access_record.specs.Histories.{History}
 use Rattle.context.specs.declared.wants.Wants.{Wants}
 use Rattle.context.specs.declared.wants.Wants.TheVariants as wants
-use Rattle.context.specs.Obeying.{IsFor}
-use Rattle.context.specs.Contexts.{Context, plan_of}
+use Rattle.context.specs.Contexts.{Context}
 use Rattle.pipeline.specs.declared.flight.Flight.{Flight}
 use Rattle.pipeline.specs.declared.flight.Made.{Made}
-use Rattle.pipeline.specs.Pipes.{flight_in, flights_in, moved, latch_for, IsAt, IsDue, AreInFlight, AreMoving, IsNotDue, HasWorked, IsLeft, HasAdvanced}
+use Rattle.pipeline.specs.Pipes.{flight_in, flights_in, moved, IsAt, AreInFlight, AreMoving, IsNotDue, HasWorked, IsLeft, HasAdvanced}
+use Rattle.pipeline.proofs.Working.{due_is}
 use Rattle.pipeline.proofs.Flying.{end_is_none}
 
 -- each byte goes to the next latch
@@ -46,20 +44,6 @@ moving_on held latches flights = record {
       let (n, n_is, its) = moved_from latches other g flights.six here in
       k_is ∙ ap suc (flights.once k n f g was its same) ∙ sym n_is;
 }
-
--- events are made in fetch, in memory and in end
-
-due_by : (plan : Class → Engine) (w : Wants) (at : Engine) → IsFor plan w at → (latch_for w ≡ 1) ⊎ ((latch_for w ≡ 4) ⊎ (latch_for w ≡ 5))
-due_by plan (wants.Ask class.Fetch) at here = inl refl
-due_by plan (wants.Ask other) at here = inr (inl refl)
-due_by plan (wants.Finish class) at here = inr (inr refl)
-due_by plan wants.Parked at here = absurd here
-due_by plan wants.Over at here = absurd here
-
-due_is : (c : Context) (latch : ℕ) → IsDue c latch → (latch ≡ 1) ⊎ ((latch ≡ 4) ⊎ (latch ≡ 5))
-due_is c latch due =
-    let Is : ℕ → Type 0 = λ n. (n ≡ 1) ⊎ ((n ≡ 4) ⊎ (n ≡ 5)) in
-    subst Is due.latch_is (due_by (plan_of c) due.wants c.engine due.here)
 
 -- what is left in a latch once its events are made isn't due there
 module _ (run : Run) (before after : Option History) (wanted : Class → Wants) (latch : ℕ) (old new : List Context) where

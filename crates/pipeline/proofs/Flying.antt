@@ -120,7 +120,8 @@ module _ (held : List Context) (latches : List (Option Flight)) (moving : AreMov
 -- what goes on after an access is in flight
 pub left_on : (held : List Context) (next : Context) (place latch : ℕ) (o : Option Flight) → place < length held → IsGoingOn next place latch o
     → IsLeft (slice_set held place next) latch 1 (Some (record { place = place; due = latch })) o
-left_on held next place latch None there on = tt
+left_on held next place latch None there on =
+    (next, omega (arith, there, length-set held place next), get_or-set_same held place next next there, on)
 left_on held next place latch (Some g) there on =
     let (same, later, most, due) = on in
     let At : ℕ → Type 0 = λ k. slice_index_or (slice_set held place next) k next ≡ next in (

@@ -8,3 +8,4 @@ pub mod Holding
 pub mod Laying
 pub mod Trying
 pub mod Turns
+pub mod Moving

@@ -1,7 +1,8 @@
 -- A hart in flight makes its event.
-use Rattle.std.proofs.Common.{◌≡◌, ◌≢◌, ℕ, ◌<◌, List, length, slice_index_or, sym, subst, ◌∙◌}
+use Rattle.std.proofs.Common.{◌≡◌, ◌≢◌, ◌⊎◌, ℕ, ◌<◌, ◌≤◌, inl, inr, refl, List, length, slice_index_or, sym, ap, subst, ◌∙◌, arith}
 use Rattle.std.proofs.lemmas.List.{get_or_default}
 use Rattle.flex_base.specs.declared.class.Class.{Class}
+use Rattle.flex_base.specs.declared.class.Class.TheVariants as class
 use Rattle.flex_base.specs.declared.engine.Engine.{Engine}
 use Rattle.context.specs.declared.wants.Wants.{Wants}
 use Rattle.context.specs.declared.wants.Wants.TheVariants as wants
@@ -9,7 +10,7 @@ use Rattle.context.specs.Obeying.{IsFor, engine_wanted}
 use Rattle.context.specs.Contexts.{Context, plan_of, IsWanting, IsElsewhere}
 use Rattle.context.specs.Runs.{MakesNone, WantsElsewhere, Waits, IsOver}
 use Rattle.context.proofs.Keeping.{wants_one}
-use Rattle.pipeline.specs.Pipes.{IsDue}
+use Rattle.pipeline.specs.Pipes.{IsDue, NoneLater, latch_for}
 
 -- what is wanted is of one engine
 same_engine : (plan : Class → Engine) (w : Wants) (at to : Engine) → IsFor plan w at → IsFor plan w to → to ≡ at
@@ -30,6 +31,41 @@ makes_one c latch due (Waits waiting) =
 makes_one c latch due (IsOver over) =
     let For : Wants → Type 0 = λ x. IsFor (plan_of c) x c.engine in
     subst For (wants_one c due.wants wants.Over due.wanting over) due.here
+
+-- events are made in fetch, in memory and in end
+due_by : (plan : Class → Engine) (w : Wants) (at : Engine) → IsFor plan w at → (latch_for w ≡ 1) ⊎ ((latch_for w ≡ 4) ⊎ (latch_for w ≡ 5))
+due_by plan (wants.Ask class.Fetch) at here = inl refl
+due_by plan (wants.Ask other) at here = inr (inl refl)
+due_by plan (wants.Finish class) at here = inr (inr refl)
+due_by plan wants.Parked at here = absurd here
+due_by plan wants.Over at here = absurd here
+
+pub due_is : (c : Context) (latch : ℕ) → IsDue c latch → (latch ≡ 1) ⊎ ((latch ≡ 4) ⊎ (latch ≡ 5))
+due_is c latch due =
+    let Is : ℕ → Type 0 = λ n. (n ≡ 1) ⊎ ((n ≡ 4) ⊎ (n ≡ 5)) in
+    subst Is due.latch_is (due_by (plan_of c) due.wants c.engine due.here)
+
+-- after that in end none is due in a later latch
+pub none_after_end : (c : Context) → NoneLater 5 c
+none_after_end c due is = elim (due_is c due is) [
+  | inl one ↦ omega (arith, one)
+  | inr other ↦ elim other [
+    | inl four ↦ omega (arith, four)
+    | inr five ↦ omega (arith, five)
+  ]
+]
+
+-- an event is due in one latch
+due_one : (c : Context) (one other : ℕ) → IsDue c one → IsDue c other → one ≡ other
+due_one c one other is also = sym is.latch_is ∙ ap latch_for (wants_one c is.wants also.wants is.wanting also.wanting) ∙ also.latch_is
+
+-- so none is due in a later one than this
+pub none_later : (c : Context) (due latch : ℕ) → IsDue c due → due ≤ latch → NoneLater latch c
+none_later c due latch is least other also = omega (arith, least, due_one c due other is also)
+
+-- nor where a hart makes none
+pub none_at_all : (c : Context) (latch : ℕ) → MakesNone c → NoneLater latch c
+none_at_all c latch none due is = absurd (makes_one c due is none)
 
 -- what is read at a place stands there
 pub at_place : (held : List Context) (place n : ℕ) (x : Context) → n ≡ place → x ≡ slice_index_or held n x → slice_index_or held place x ≡ x

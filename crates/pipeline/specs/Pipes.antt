@@ -213,10 +213,15 @@ HasWorked run before after wanted latch zero f old new = IsNotDue latch f × (ne
 HasWorked run before after wanted latch (suc zero) (Some f) old new = (f.due ≡ latch) × Works run before after wanted f old new
 HasWorked run before after wanted latch made f old new = ⊥
 
--- what is in a latch after its event: the instruction, where its next event is due in a later one. Where it made none it stays
+-- no event of the hart's engine is due in a latch after this one
+abbrev pub NoneLater : ℕ → Context → Type 0
+NoneLater latch c = (due : ℕ) → IsDue c due → due ≤ latch
+
+-- what is in a latch after its event: the instruction, exactly where its next event is due in a later one. Where it made none it stays
 abbrev pub IsLeft : List Context → ℕ → ℕ → Option Flight → Option Flight → Type 0
 IsLeft held latch zero old new = new ≡ old
-IsLeft held latch made old None = Unit {0}
+IsLeft held latch made None None = Unit {0}
+IsLeft held latch made (Some f) None = HasHart held f.place (NoneLater latch)
 IsLeft held latch made None (Some g) = ⊥
 IsLeft held latch made (Some f) (Some g) = (g.place ≡ f.place) × IsInFlight held latch g
 
@@ -236,9 +241,9 @@ pub record HasAdvanced (run : Run) (before after : Option History) (made : Made)
   pub leaves : (m f : Option Flight) × (left ≡ slice_set (slice_set (slice_set (moved latches) 5 None) 4 m) 1 f)
       × IsLeft held_memory 4 memory (slice_index_or latches 3 None) m × IsLeft new 1 fetch (slice_index_or latches 0 None) f
 
--- after an access in this latch: the instruction, where its next event is due in a later one
+-- after an access in this latch: the instruction, exactly where its next event is due in a later one
 abbrev pub IsGoingOn : Context → ℕ → ℕ → Option Flight → Type 0
-IsGoingOn c place latch None = Unit {0}
+IsGoingOn c place latch None = NoneLater latch c
 IsGoingOn c place latch (Some f) = (f.place ≡ place) × (latch < f.due) × (f.due ≤ 5) × IsDue c f.due
 
 -- the instruction of this hart was laid into the latch before the one of its next event
@@ -289,3 +294,14 @@ IsTurn held (None ∷ rest) next after = NoneMayStart held (None ∷ rest) 0 (le
 abbrev pub AreNearerToStart : Pipe → Pipe → Type 0
 AreNearerToStart old new = (place : ℕ) (c : Context) → place < length new.held → slice_index_or new.held place c ≡ c → IsWantedIn c engine.Pipe
     → is_among new.latches place ≡ false → places_before (length new.held) new.next place < places_before (length old.held) old.next place
+
+-- What a cycle does with what is in the latches.
+
+-- an instruction whose event isn't due in the next latch is there now
+abbrev pub AreMovedOn : List (Option Flight) → List (Option Flight) → Type 0
+AreMovedOn old new = (latch : ℕ) (f : Flight) → IsAt old latch f → suc latch < f.due → IsAt new (suc latch) f
+
+-- one whose access was due in the next latch is there now exactly where its hart's next event is due in a later one
+abbrev pub HaveGoneOn : List Context → List (Option Flight) → List (Option Flight) → Type 0
+HaveGoneOn held old new = (latch : ℕ) (f : Flight) → IsAt old latch f → suc latch ≡ f.due → f.due < 5
+    → IsLeft held (suc latch) 1 (Some f) (slice_index_or new (suc latch) None)

@@ -2,7 +2,7 @@ ghost use Rattle.std.specs.Prelude.{◌≡◌, ◌<◌, ◌≤◌, ◌+◌, [], 
 ghost use Rattle.flex_base.specs.declared.engine.Engine.{Engine};
 ghost use Rattle.flex_base.specs.declared.engine.Engine.TheVariants as engine;
 ghost use Rattle.context.specs.Contexts.{IsElsewhere};
-ghost use Rattle.pipeline.specs.Pipes.{Passes, moved_places, IsNearer, IsTurn, AreNearerToStart, next_without, IsOut, AreOn, NoneElsewhere, AreInFlight, HasHart, HasLaid, IsTakenOut};
+ghost use Rattle.pipeline.specs.Pipes.{Passes, moved_places, AreMovedOn, HaveGoneOn, IsNearer, IsTurn, AreNearerToStart, next_without, IsOut, AreOn, NoneElsewhere, AreInFlight, HasHart, HasLaid, IsTakenOut};
 
 use crate::flight::{Flight, other_engine};
 use crate::latches::Latches;
@@ -78,6 +78,8 @@ impl Pipeline {
     pub fn cycle<B: Bus>(&mut self, bus: &mut B)
         requires on { AreOn (B.run bus.old) self.old.held }
         ensures passes { Passes (B.run bus.old) (B.history bus.old) (B.history bus.new) self.new.made (moved_places self.old) self.old.held self.new.held }
+        ensures moves { AreMovedOn self.old.latches self.new.latches }
+        ensures goes_on { HaveGoneOn self.new.held self.old.latches self.new.latches }
         ensures nearer { IsNearer self.old self.new }
         ensures turn { IsTurn self.new.held self.new.latches self.old.next self.new.next }
         ensures fair { AreNearerToStart self.old self.new }

@@ -6,7 +6,8 @@ use Rattle.context.specs.declared.wants.Wants.TheVariants as wants
 use Rattle.context.specs.Contexts.{Context, IsOn}
 use Rattle.pipeline.specs.declared.flight.Flight.{Flight}
 use Rattle.pipeline.specs.Pipes.{flights_in, HasWorked, IsAt, AreMoving}
-use Rattle.pipeline.proofs.Flying.{read_set, read_at, six_slots, end_is_none, read_again, due_finish, within, due_read, moving_after}
+use Rattle.pipeline.proofs.Flying.{read_set, read_at, six_slots, end_is_none, read_again, due_finish, within, due_read, moving_after, left_on}
+use Rattle.pipeline.proofs.Working.{none_after_end}
 use Rattle.pipeline.proofs.latches.end_in.Goals as goal
 
 pub returns-in_default-clause-left : goal.returns-in_default-clause-left
@@ -57,7 +58,8 @@ returns-clause-moving g c =
     let at : IsAt (flights_in c.args.slots.now) 5 (record { place = c.in-Some.place; due = 5 }) = read_at c.args.slots.now c.from.result 5 c.from.ensures (omega (arith, six_slots c.args.held.now c.args.slots.now c.requires.moving)) ∙ c.in-Some.ensures in
     let next = c.finish.new.self in
     let after : AreMoving (slice_set c.args.held.now c.in-Some.place next) (slice_set (flights_in c.args.slots.now) 5 None) =
-    moving_after c.args.held.now (flights_in c.args.slots.now) c.requires.moving 5 _ at next None tt (search arith) in
+    moving_after c.args.held.now (flights_in c.args.slots.now) c.requires.moving 5 _ at next None
+    (left_on c.args.held.now next c.in-Some.place 5 None (within c.args.held.now (flights_in c.args.slots.now) c.requires.moving 5 _ at) (none_after_end next)) (search arith) in
     let OfHeld : ℕ → Type 0 = λ n. AreMoving (slice_set c.args.held.now n next) (slice_set (flights_in c.args.slots.now) 5 None) in
     let OfLatches : List (Option Flight) → Type 0 = λ l. AreMoving (slice_set c.args.held.now c.from-2.result next) l in
     subst OfLatches (sym (read_set c.args.slots.now c.from-3.result 5 255 c.from-3.ensures)) (subst OfHeld (sym c.from-2.ensures) after)

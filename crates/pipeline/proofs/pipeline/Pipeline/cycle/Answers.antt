@@ -1,9 +1,10 @@
 -- The latches move on over all harts, and select takes one.
 use Rattle.std.proofs.Common.{ℕ, ◌+◌, List, ◌++◌, take, drop, length, sym, subst}
 use Rattle.context.specs.Contexts.{Context}
-use Rattle.pipeline.specs.Pipes.{Pipe, pipe_of, Passes, moved_places, IsNearer, IsTurn, AreNearerToStart, AreOn}
+use Rattle.pipeline.specs.Pipes.{Pipe, pipe_of, Passes, moved_places, IsNearer, IsTurn, AreNearerToStart, AreMovedOn, HaveGoneOn, AreOn}
 use Rattle.pipeline.proofs.Cycling.{held_is, passes_is, total_is}
 use Rattle.pipeline.proofs.Nearing.{nearer_is, keeps}
+use Rattle.pipeline.proofs.Moving.{cycle_moves, cycle_goes_on}
 use Rattle.pipeline.proofs.Turns.{cycle_turn, cycle_fair}
 use Rattle.pipeline.proofs.pipeline.Pipeline.cycle.Goals as goal
 
@@ -51,3 +52,16 @@ returns-clause-fair g c =
     subst Fair c.self.view_is (cycle_fair (g.B.Bus.run c.args.bus.now) _ _ _ _ _ _ _ _ _ _ c.deref_mut.ensures.value c.deref_mut.ensures.len c.advance-made.ensures.advanced
     c.advance-made.ensures.flights.six c.advance-made.ensures.free c.advance-made.ensures.here c.self.invariant.here c.deref.ensures.value _ _ c.select-selected.ensures.found _ _
     c.select-selected.ensures.turn c.select-selected.ensures.none c.turn_after-next.ensures c.self.invariant.turn)
+
+pub returns-clause-moves : goal.returns-clause-moves
+returns-clause-moves g c =
+    let Moved : Pipe → Type 0 = λ p. AreMovedOn p.latches c.select-selected.new.self in
+    subst Moved c.self.view_is (cycle_moves (g.B.Bus.run c.args.bus.now) _ _ _ _ _ _ _ _ _ _ c.deref_mut.ensures.value c.deref_mut.ensures.len c.advance-made.ensures.advanced
+    c.self.invariant.flights c.advance-made.ensures.flights _ _ c.select-selected.ensures.found c.select-selected.ensures.none)
+
+pub returns-clause-goes_on : goal.returns-clause-goes_on
+returns-clause-goes_on g c =
+    let Gone : Pipe → Type 0 = λ p.
+    HaveGoneOn (take c.self.inside.held.len (c.advance-made.new.held ++ drop (length c.advance-made.new.held) c.self.inside.held.items)) p.latches c.select-selected.new.self in
+    subst Gone c.self.view_is (cycle_goes_on (g.B.Bus.run c.args.bus.now) _ _ _ _ _ _ _ _ _ _ c.deref_mut.ensures.value c.deref_mut.ensures.len c.advance-made.ensures.advanced
+    c.self.invariant.flights c.advance-made.ensures.flights _ _ c.select-selected.ensures.found c.select-selected.ensures.none)
