@@ -167,12 +167,13 @@ IsNearer old new = (place : ℕ) (c : Context) → place < length old.held → s
 abbrev pub next_without : ℕ → ℕ → ℕ
 next_without place next = if nat_lt place next then next - 1 else next
 
--- a hart that was held isn't any more, and all others are as before, in their order
+-- a hart that was held isn't any more, nor is its instruction in flight, and all others are as before, in their order
 pub record IsOut (old new : Pipe) (c : Context) : Type 0 where
   pub before : List Context
   pub after : List Context
   pub was : old.held ≡ before ++ c ∷ after
   pub left : new.held ≡ before ++ after
+  pub latches : new.latches ≡ without_in (length before) old.latches
   pub next : new.next ≡ next_without (length before) old.next
   pub made : new.made ≡ old.made
 

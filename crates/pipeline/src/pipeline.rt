@@ -2,7 +2,7 @@ ghost use Rattle.std.specs.Prelude.{◌≡◌, ◌<◌, ◌≤◌, ◌+◌, [], 
 ghost use Rattle.flex_base.specs.declared.engine.Engine.{Engine};
 ghost use Rattle.flex_base.specs.declared.engine.Engine.TheVariants as engine;
 ghost use Rattle.context.specs.Contexts.{IsElsewhere};
-ghost use Rattle.pipeline.specs.Pipes.{Passes, moved_places, AreMovedOn, HaveGoneOn, IsNearer, IsTurn, AreNearerToStart, next_without, IsOut, AreOn, NoneElsewhere, AreInFlight, HasHart, HasLaid, IsTakenOut};
+ghost use Rattle.pipeline.specs.Pipes.{Passes, moved_places, AreMovedOn, HaveGoneOn, IsNearer, IsTurn, AreNearerToStart, without_in, next_without, IsOut, AreOn, NoneElsewhere, AreInFlight, HasHart, HasLaid, IsTakenOut};
 
 use crate::flight::{Flight, other_engine};
 use crate::latches::Latches;
@@ -109,6 +109,7 @@ impl Pipeline {
     /// Takes out the hart that was admitted last.
     pub fn drain_one(&mut self) -> Option<HartContext>
         ensures out { IfSome result (λ c. self.old.held ≡ self.new.held ++ c ∷ []) }
+        ensures latches { IfSome result (λ c. self.new.latches ≡ without_in (length self.new.held) self.old.latches) }
         ensures turn { IfSome result (λ c. self.new.next ≡ next_without (length self.new.held) self.old.next) }
         ensures none { IfNone result (self.old.held ≡ []) }
         ensures stays { IfNone result (self.new ≡ self.old) }
